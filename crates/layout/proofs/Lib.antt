@@ -1,0 +1,9 @@
+pub mod BooleanLaws
+pub mod RangeLaws
+pub mod ByteLaws
+pub mod ConcatenationLaws
+pub mod NumberLaws
+pub mod RunLaws
+pub mod StringFieldLaws
+pub mod TableLaws
+pub mod BitLaws

@@ -1,0 +1,5 @@
+pub mod Bytes
+pub mod Numbers
+pub mod StringFields
+pub mod Tables
+pub mod Bits

@@ -1,0 +1,62 @@
+-- Laws of the table of kinds, over ranges of kinds: what a property of each kind of a range says, and that no kind lies in a gap.
+use Prim.Native.Nat.{ℕ, zero, suc, _+_, _≤_, _<_}
+use native.Mathlib.Omega.{arith}
+use mathlib.Core.Path.{_≡_, refl, sym, ap, _∙_, subst}
+use mathlib.Core.List.{List, [], _∷_}
+use mathlib.Core.Bool.{Bool, true, false, _&&_, cond}
+use mathlib.Core.Option.{some, none}
+use lib.Dec.{eqb, leb}
+use borrow.Table.Steps.{cases}
+use borrow.Author.Tests.{eqb-true, eqb-false, ne-eqb, le-leb}
+use Rattle.reader.specs.Kinds.{KindEntry, kinds, fieldsIn, kindFields}
+
+-- ---- a property of each of n kinds from lo on
+
+abbrev pub EachFrom : (ℕ → Type 0) → ℕ → ℕ → Type 0
+EachFrom P lo zero = Unit {0}
+EachFrom P lo (suc n) = P lo × EachFrom P (suc lo) n
+
+pub each-between : (P : ℕ → Type 0) (lo n : ℕ) → EachFrom P lo n → (k : ℕ) → lo ≤ k → k < lo + n → P k
+each-between P lo zero e k h l = absurd (omega arith)
+each-between P lo (suc n) e k h l =
+    cases (eqb k lo) (λ q. subst P (sym (eqb-true k lo q)) (e .0))
+    (λ q. let d = eqb-false k lo q in each-between P (suc lo) n (e .1) k (omega arith) (omega arith))
+
+-- a kind that is none of the first n of a range is the last one
+pub last-kind : (lo n k : ℕ) → EachFrom (λ (j : ℕ). k ≡ j → ⊥) lo n → lo ≤ k → k ≤ lo + n → k ≡ lo + n
+last-kind lo zero k e h l = omega arith
+last-kind lo (suc n) k e h l = let d = e .0 in let r = last-kind (suc lo) n k (e .1) (omega arith) (omega arith) in omega arith
+
+-- ---- of a kind from lo to hi, only the entries from lo to hi count
+
+abbrev pub entriesBetween : ℕ → ℕ → List KindEntry → List KindEntry
+entriesBetween lo hi [] = []
+entriesBetween lo hi (e ∷ es) = cond (leb lo (e .kind) && leb (e .kind) hi) (e ∷ entriesBetween lo hi es) (entriesBetween lo hi es)
+
+fields-between : (k lo hi : ℕ) (es : List KindEntry) → lo ≤ k → k ≤ hi → fieldsIn k es ≡ fieldsIn k (entriesBetween lo hi es)
+unfolding fieldsIn
+fields-between k lo hi [] p q = refl
+fields-between k lo hi (e ∷ es) p q = by-test (leb lo (e .kind) && leb (e .kind) hi) refl (fields-between k lo hi es p q)
+  where
+    outside : (leb lo (e .kind) && leb (e .kind) hi) ≡ false → k ≡ e .kind → ⊥
+    outside t x = let z : _≡_ {A = ℕ} 0 1 = cc (le-leb lo (e .kind) (omega arith), le-leb (e .kind) hi (omega arith)) in omega arith
+
+    by-test : (t : Bool) → (leb lo (e .kind) && leb (e .kind) hi) ≡ t → fieldsIn k es ≡ fieldsIn k (entriesBetween lo hi es)
+        → cond (eqb k (e .kind)) (some (e .fields)) (fieldsIn k es) ≡ fieldsIn k (cond t (e ∷ entriesBetween lo hi es) (entriesBetween lo hi es))
+    by-test true t r = ap (cond (eqb k (e .kind)) (some (e .fields))) r
+    by-test false t r = ap (λ (x : Bool). cond x (some (e .fields)) (fieldsIn k es)) (ne-eqb k (e .kind) (outside t)) ∙ r
+
+-- k is the kind of none of these entries
+abbrev pub NoneIs : ℕ → List KindEntry → Type 0
+NoneIs k [] = Unit {0}
+NoneIs k (e ∷ es) = (k ≡ e .kind → ⊥) × NoneIs k es
+
+none-in : (k : ℕ) (es : List KindEntry) → NoneIs k es → fieldsIn k es ≡ none
+unfolding fieldsIn
+none-in k [] n = refl
+none-in k (e ∷ es) n = ap (λ (t : Bool). cond t (some (e .fields)) (fieldsIn k es)) (ne-eqb k (e .kind) (n .0)) ∙ none-in k es (n .1)
+
+-- a kind from lo to hi is unknown if it is none of the entries there
+pub unknown-kind : (k lo hi : ℕ) → lo ≤ k → k ≤ hi → NoneIs k (entriesBetween lo hi kinds) → kindFields k ≡ none
+unfolding kindFields
+unknown-kind k lo hi p q n = fields-between k lo hi kinds p q ∙ none-in k (entriesBetween lo hi kinds) n
