@@ -1,0 +1,15 @@
+pub mod StateUpdates
+pub mod ListLaws
+pub mod RecordLaws
+pub mod TableRecordLaws
+pub mod RecordTheorems
+pub mod CutLaws
+pub mod BoardTheorems
+pub mod OffsetTheorems
+pub mod ReadingLaws
+pub mod WritingLaws
+pub mod SoundnessLaws
+pub mod AllRecordLaws
+pub mod DamagedBoards
+pub mod EmptyBoard
+pub mod SoundnessTheorems

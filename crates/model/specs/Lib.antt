@@ -1,0 +1,4 @@
+pub mod Lists
+pub mod State
+pub mod Board
+pub mod Soundness
