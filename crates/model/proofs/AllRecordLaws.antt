@@ -1,7 +1,7 @@
 -- All records of a board in one list: the board is cut into them again, also with bytes behind it and after bytes were written into one.
 use Prim.Native.Nat.{ℕ, _+_, _<_}
 use native.Mathlib.Omega.{arith}
-use mathlib.Core.Path.{_≡_, sym, ap, _∙_}
+use mathlib.Core.Path.{_≡_, refl, sym, ap, _∙_}
 use mathlib.Core.List.{List, [], _∷_, _++_, map, flatten, sum, append-nil, map-append}
 use mathlib.Core.Bool.{Bool, true}
 use lib.ListN.{length, take, drop, getD, set, replicate, length-map, List·getD-map}
@@ -9,9 +9,10 @@ use lib.Seq.{map-set-same}
 use lib.Dec.{eqb, leb, ltb, lit<}
 use borrow.Author.Tests.{leb-true, ltb-true, eqb-true}
 use Rattle.layout.specs.Bytes.{bytesAt, patch, offset, pieces}
+use Rattle.layout.proofs.BooleanLaws.{and-left, and-right}
 use Rattle.layout.proofs.ByteLaws.{length-patch, patch-bytesAt}
 use Rattle.layout.proofs.ConcatenationLaws.{flatten-append, length-flatten, pieces-flatten, bytesAt-flatten, patch-flatten, offset-le}
-use Rattle.model.specs.Lists.{allTrue}
+use Rattle.model.specs.Lists.{forAll, allTrue}
 use Rattle.model.specs.State.{userLimit, postLimit, pendingLimit, noteCount}
 use Rattle.model.specs.Board.{boardSize, BoardRecords, cutBoard, joinRecords}
 use Rattle.model.proofs.ListLaws.{true-at}
@@ -104,3 +105,25 @@ module _ (w : Write) (zs : List ℕ) (t : allTrue (writeTests zs w) ≡ true) (r
       ∙ patch-flatten zs rs k (patch old (w .at) x) e there (same ∙ size)
       in
       (bytes, map-set-same length rs k (patch old (w .at) x) [] same ∙ e)
+
+-- ---- writes one after the other
+
+abbrev pub writesBoard : List Write → List ℕ → List ℕ
+writesBoard [] b = b
+writesBoard (w ∷ ws) b = writesBoard ws (writeBoard w b)
+
+abbrev pub writesRecords : List Write → List (List ℕ) → List (List ℕ)
+writesRecords [] rs = rs
+writesRecords (w ∷ ws) rs = writesRecords ws (writeRecords w rs)
+
+abbrev pub writesPass : List ℕ → List Write → Bool
+writesPass zs ws = forAll (λ (w : Write). allTrue (writeTests zs w)) ws
+
+pub writes-records : (ws : List Write) (zs : List ℕ) → writesPass zs ws ≡ true → (rs : List (List ℕ)) → map length rs ≡ zs
+    → (writesBoard ws (flatten rs) ≡ flatten (writesRecords ws rs)) × (map length (writesRecords ws rs) ≡ zs)
+unfolding forAll
+writes-records [] zs t rs e = (refl, e)
+writes-records (w ∷ ws) zs t rs e =
+    let one = write-records w zs (and-left (allTrue (writeTests zs w)) (writesPass zs ws) t) rs e in
+    let rest = writes-records ws zs (and-right (allTrue (writeTests zs w)) (writesPass zs ws) t) (writeRecords w rs) (one .1) in
+    (ap (writesBoard ws) (one .0) ∙ rest .0, rest .1)

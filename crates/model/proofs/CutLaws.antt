@@ -98,8 +98,8 @@ join-cut b l =
     let ps = table-flatten b 3344 312 64 in
     let ks = table-flatten b 23312 32 16 in
     let ns = table-flatten b 23824 26 1024 in
-    let all : regions (cutBoard b) ≡ pieces regionSizes 0 b = λ i. bytesAt b 0 16 ∷ us i ∷ ps i ∷ ks i ∷ ns i ∷ [] in
-    ap flatten all ∙ flatten-pieces regionSizes 0 b ∙ bytesAt-all b boardSize l
+    let cut : regions (cutBoard b) ≡ pieces regionSizes 0 b = λ i. bytesAt b 0 16 ∷ us i ∷ ps i ∷ ks i ∷ ns i ∷ [] in
+    ap flatten cut ∙ flatten-pieces regionSizes 0 b ∙ bytesAt-all b boardSize l
 
 pub cut-sizes : (b : List ℕ) → length b ≡ boardSize → RightSizes (cutBoard b)
 unfolding cutBoard

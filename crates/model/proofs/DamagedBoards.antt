@@ -12,11 +12,11 @@ use Rattle.layout.specs.Numbers.{toLeBytes, fromLeBytes}
 use Rattle.layout.specs.StringFields.{isString, stringBytes, stringField, statedLength, fieldString, isStringField}
 use Rattle.layout.proofs.ConcatenationLaws.{flatten-append}
 use Rattle.model.specs.Lists.{forAll, allTrue, allBelow, contains, distinct}
-use Rattle.model.specs.State.{State, userLimit, postLimit, pendingLimit, noteCount, userNumbers, postNumbers, pendingNumbers, userAt, notesTo}
+use Rattle.model.specs.State.{State, userLimit, postLimit, pendingLimit, noteCount, emptyState, userNumbers, postNumbers, pendingNumbers, userAt, notesTo}
 use Rattle.model.specs.Board.{boardSize, storedBytes, storedFits, recordBytes, headerFields, userFields, postFields, pendingFields, noteFields, decodeUser, decodePost, decodePending, BoardRecords, cutBoard, joinRecords, tableRecords, recordsOf, userCount, postCount, pendingCount, stateOf, encode, decode, tableFits, stateFits}
 use Rattle.model.specs.Soundness.{countsWithinLimits, unusedRecordsZero, userStrings, postStrings, pendingStrings, stringsWithinLimits, fillerZero, numbersNotZero, numbersDistinct, pendingNotRegistered, friendsSymmetric, noOwnBit, bitsBelowCount, notesRequested, ownersRegistered, visibilityValid, recordClauses, stateClauses, zeroWithoutUsers, clauseResults, isSound}
 use Rattle.model.proofs.BoardTheorems.{fitting, right-sizes, length-encode, cut-encode}
-use Rattle.model.proofs.AllRecordLaws.{allRecords, allSizes, boardTables, flatten-all, sizes-all, length-all, cut-all, Write, writeBoard, writeRecords, writeTests, write-records}
+use Rattle.model.proofs.AllRecordLaws.{allRecords, allSizes, boardTables, flatten-all, sizes-all, length-all, cut-all, Write, writesBoard, writesRecords, writesPass, writes-records}
 
 -- ---- writes by table, record and place in the record
 
@@ -56,8 +56,8 @@ length-holds b l = rw l (refl, refl)
 results-whole : (b : List ℕ) (r : BoardRecords) → length b ≡ boardSize → cutBoard b ≡ r → clauseResults b ≡ true ∷ clausesOn r b
 results-whole b r l e = results-by b r e ∙ ap (λ (first : Bool). first ∷ clausesOn r b) (length-holds b l .0)
 
-recordsAfter : State → Write → List (List ℕ)
-recordsAfter s w = writeRecords w (allRecords (recordsOf s))
+recordsAfter : State → List Write → List (List ℕ)
+recordsAfter s ws = writesRecords ws (allRecords (recordsOf s))
 
 -- a byte behind the last record
 abbrev boardLonger : State → List ℕ
@@ -86,16 +86,16 @@ module _ (s : State) (t : stateFits s ≡ true) where
       in
       results-by (boardLonger s) (boardTables (recordsLonger s)) (ap cutBoard (sym joined) ∙ cut-all (recordsLonger s) (1 ∷ []) sizes)
 
-  results-write : (w : Write) → allTrue (writeTests allSizes w) ≡ true
-      → clauseResults (writeBoard w (encode s)) ≡ true ∷ clausesOn (boardTables (recordsAfter s w)) (flatten (recordsAfter s w))
+  results-writes : (ws : List Write) → writesPass allSizes ws ≡ true
+      → clauseResults (writesBoard ws (encode s)) ≡ true ∷ clausesOn (boardTables (recordsAfter s ws)) (flatten (recordsAfter s ws))
   unfolding recordsAfter encode
-  results-write w u =
-      let rs : List (List ℕ) = recordsAfter s w in
-      let written = write-records w allSizes u (allRecords (recordsOf s)) sizes-state in
-      ap clauseResults (ap (writeBoard w) (sym (flatten-all (recordsOf s))) ∙ written .0)
+  results-writes ws u =
+      let rs : List (List ℕ) = recordsAfter s ws in
+      let written = writes-records ws allSizes u (allRecords (recordsOf s)) sizes-state in
+      ap clauseResults (ap (writesBoard ws) (sym (flatten-all (recordsOf s))) ∙ written .0)
       ∙ results-whole (flatten rs) (boardTables rs) (length-all rs (written .1)) (cut-all rs [] (written .1 ∙ sym (append-nil allSizes)))
 
--- ---- states: some of each table, with a friendship and a request; full tables; one pending, and no users
+-- ---- states: some of each table, with a friendship and a request; full tables
 
 exampleState : State
 exampleState = record {
@@ -122,12 +122,9 @@ fullState = record {
   notes = replicate noteCount [];
 }
 
-pendingState : State
-pendingState = record { users = []; posts = []; pending = record { number = 1; note = [] } ∷ []; notes = replicate noteCount [] }
-
 -- all that the rows below compute
 unfoldable definitions : Unit {0}
-unfolding exampleState numbersFrom fullState pendingState recordsAfter recordsLonger zeroWithoutUsers encode cutBoard joinRecords flatten patch bytesAt offset sum recordsOf recordBytes headerFields userFields postFields pendingFields noteFields storedBytes storedFits tableRecords tableFits stateFits toLeBytes fromLeBytes stringField stringBytes isStringField statedLength fieldString isString allZero allTrue forAll allBelow contains distinct indexOf indexAfter countsWithinLimits unusedRecordsZero stringsWithinLimits fillerZero userStrings postStrings pendingStrings userCount postCount pendingCount stateOf decodeUser decodePost decodePending userNumbers postNumbers pendingNumbers userAt notesTo bitAt hasBit numbersNotZero numbersDistinct pendingNotRegistered friendsSymmetric noOwnBit bitsBelowCount notesRequested ownersRegistered visibilityValid
+unfolding exampleState numbersFrom fullState emptyState recordsAfter recordsLonger zeroWithoutUsers encode cutBoard joinRecords flatten patch bytesAt offset sum recordsOf recordBytes headerFields userFields postFields pendingFields noteFields storedBytes storedFits tableRecords tableFits stateFits toLeBytes fromLeBytes stringField stringBytes isStringField statedLength fieldString isString allZero allTrue forAll allBelow contains distinct indexOf indexAfter countsWithinLimits unusedRecordsZero stringsWithinLimits fillerZero userStrings postStrings pendingStrings userCount postCount pendingCount stateOf decodeUser decodePost decodePending userNumbers postNumbers pendingNumbers userAt notesTo bitAt hasBit numbersNotZero numbersDistinct pendingNotRegistered friendsSymmetric noOwnBit bitsBelowCount notesRequested ownersRegistered visibilityValid
 definitions = tt
 
 -- ---- sound boards
@@ -146,37 +143,53 @@ pub full : SoundBoard
 unfolding definitions
 full = record { state = fullState; fits = refl; holds = results-encode fullState refl }
 
-pub sound-boards : map (λ (b : SoundBoard). clauseResults (encode (b .state))) (example ∷ full ∷ []) ≡ replicate 2 (replicate 15 true)
-sound-boards = λ i. example .holds i ∷ full .holds i ∷ []
+pub empty : SoundBoard
+unfolding definitions
+empty = record { state = emptyState; fits = refl; holds = results-encode emptyState refl }
+
+pub sound-boards : map (λ (b : SoundBoard). clauseResults (encode (b .state))) (example ∷ full ∷ empty ∷ []) ≡ replicate 3 (replicate 15 true)
+sound-boards = λ i. example .holds i ∷ full .holds i ∷ empty .holds i ∷ []
 
 -- ---- damaged boards
 
--- a board that breaks a clause, given by its place in `clauseResults`, and no other
+-- what is done to a sound board: one byte more at its end, or bytes written over some of its own
+pub data Damage : Type 0 where
+  longer : Damage
+  written : List Write → Damage
+
+abbrev pub damagedBy : Damage → List ℕ → List ℕ
+damagedBy longer b = b ++ (0 ∷ [])
+damagedBy (written ws) b = writesBoard ws b
+
+-- a sound board and a damage that breaks one clause, given by its place in `clauseResults`, and no other
 pub record DamagedBoard : Type 0 where
   pub clause : ℕ
-  pub board : List ℕ
-  pub breaks : clauseResults board ≡ set (replicate 15 true) clause false
+  pub sound : SoundBoard
+  pub damage : Damage
+  pub breaks : clauseResults (damagedBy damage (encode (sound .state))) ≡ set (replicate 15 true) clause false
 
-damaged : (clause : ℕ) (b : SoundBoard) (w : Write) → allTrue (writeTests allSizes w) ≡ true
-    → true ∷ clausesOn (boardTables (recordsAfter (b .state) w)) (flatten (recordsAfter (b .state) w)) ≡ set (replicate 15 true) clause false
+abbrev pub boardOf : DamagedBoard → List ℕ
+boardOf d = damagedBy (d .damage) (encode (d .sound .state))
+
+damaged : (clause : ℕ) (b : SoundBoard) (ws : List Write) → writesPass allSizes ws ≡ true
+    → true ∷ clausesOn (boardTables (recordsAfter (b .state) ws)) (flatten (recordsAfter (b .state) ws)) ≡ set (replicate 15 true) clause false
     → DamagedBoard
-damaged clause b w u e =
-    record { clause = clause; board = writeBoard w (encode (b .state)); breaks = results-write (b .state) (b .fits) w u ∙ e }
+damaged clause b ws u e = record { clause = clause; sound = b; damage = written ws; breaks = results-writes (b .state) (b .fits) ws u ∙ e }
 
 -- length, counts, unused records
 damagedTables : List DamagedBoard
 unfolding definitions clauseResults example full
 damagedTables =
     -- one byte more
-    record { clause = 0; board = boardLonger exampleState; breaks = results-longer exampleState refl }
+    record { clause = 0; sound = example; damage = longer; breaks = results-longer exampleState refl }
     -- counts of 33 users, 65 posts, 17 pending
-    ∷ damaged 1 full (header 0 (33 ∷ [])) refl refl
-    ∷ damaged 1 full (header 2 (65 ∷ [])) refl refl
-    ∷ damaged 1 full (header 4 (17 ∷ [])) refl refl
+    ∷ damaged 1 full (header 0 (33 ∷ []) ∷ []) refl refl
+    ∷ damaged 1 full (header 2 (65 ∷ []) ∷ []) refl refl
+    ∷ damaged 1 full (header 4 (17 ∷ []) ∷ []) refl refl
     -- a byte in an unused record: a user's password, the last byte of the last post, of the last pending one
-    ∷ damaged 2 example (user 3 4 (1 ∷ [])) refl refl
-    ∷ damaged 2 example (post 63 311 (1 ∷ [])) refl refl
-    ∷ damaged 2 example (pending 15 31 (1 ∷ [])) refl refl
+    ∷ damaged 2 example (user 3 4 (1 ∷ []) ∷ []) refl refl
+    ∷ damaged 2 example (post 63 311 (1 ∷ []) ∷ []) refl refl
+    ∷ damaged 2 example (pending 15 31 (1 ∷ []) ∷ []) refl refl
     ∷ []
 
 -- strings and filler
@@ -184,76 +197,76 @@ damagedStrings : List DamagedBoard
 unfolding definitions example
 damagedStrings =
     -- a stated length one above the limit, and a byte behind the string: name, info, title, text, pending note, request note
-    damaged 3 example (user 2 20 (25 ∷ [])) refl refl
-    ∷ damaged 3 example (user 2 45 (1 ∷ [])) refl refl
-    ∷ damaged 3 example (user 2 46 (57 ∷ [])) refl refl
-    ∷ damaged 3 example (user 2 103 (1 ∷ [])) refl refl
-    ∷ damaged 3 example (post 1 12 (41 ∷ [])) refl refl
-    ∷ damaged 3 example (post 1 53 (1 ∷ [])) refl refl
-    ∷ damaged 3 example (post 1 54 (1 ∷ 1 ∷ [])) refl refl
-    ∷ damaged 3 example (post 1 311 (1 ∷ [])) refl refl
-    ∷ damaged 3 example (pending 1 4 (25 ∷ [])) refl refl
-    ∷ damaged 3 example (pending 1 29 (1 ∷ [])) refl refl
-    ∷ damaged 3 example (note 2 0 (25 ∷ [])) refl refl
-    ∷ damaged 3 example (note 1023 25 (1 ∷ [])) refl refl
+    damaged 3 example (user 2 20 (25 ∷ []) ∷ []) refl refl
+    ∷ damaged 3 example (user 2 45 (1 ∷ []) ∷ []) refl refl
+    ∷ damaged 3 example (user 2 46 (57 ∷ []) ∷ []) refl refl
+    ∷ damaged 3 example (user 2 103 (1 ∷ []) ∷ []) refl refl
+    ∷ damaged 3 example (post 1 12 (41 ∷ []) ∷ []) refl refl
+    ∷ damaged 3 example (post 1 53 (1 ∷ []) ∷ []) refl refl
+    ∷ damaged 3 example (post 1 54 (1 ∷ 1 ∷ []) ∷ []) refl refl
+    ∷ damaged 3 example (post 1 311 (1 ∷ []) ∷ []) refl refl
+    ∷ damaged 3 example (pending 1 4 (25 ∷ []) ∷ []) refl refl
+    ∷ damaged 3 example (pending 1 29 (1 ∷ []) ∷ []) refl refl
+    ∷ damaged 3 example (note 2 0 (25 ∷ []) ∷ []) refl refl
+    ∷ damaged 3 example (note 1023 25 (1 ∷ []) ∷ []) refl refl
     -- a filler byte of the header, of a pending record
-    ∷ damaged 4 example (header 15 (1 ∷ [])) refl refl
-    ∷ damaged 4 example (pending 1 30 (1 ∷ [])) refl refl
+    ∷ damaged 4 example (header 15 (1 ∷ []) ∷ []) refl refl
+    ∷ damaged 4 example (pending 1 30 (1 ∷ []) ∷ []) refl refl
     ∷ []
 
 -- numbers, rows, notes, posts, no users
 damagedStates : List DamagedBoard
-unfolding definitions example
+unfolding definitions example empty
 damagedStates =
     -- number 0: a user, a post, a pending one
-    damaged 5 example (user 2 0 (0 ∷ [])) refl refl
-    ∷ damaged 5 example (post 1 0 (0 ∷ [])) refl refl
-    ∷ damaged 5 example (pending 1 0 (0 ∷ [])) refl refl
+    damaged 5 example (user 2 0 (0 ∷ []) ∷ []) refl refl
+    ∷ damaged 5 example (post 1 0 (0 ∷ []) ∷ []) refl refl
+    ∷ damaged 5 example (pending 1 0 (0 ∷ []) ∷ []) refl refl
     -- a number twice: users, posts, pending
-    ∷ damaged 6 example (user 2 0 (7 ∷ [])) refl refl
-    ∷ damaged 6 example (post 1 0 (5 ∷ [])) refl refl
-    ∷ damaged 6 example (pending 1 0 (20 ∷ [])) refl refl
+    ∷ damaged 6 example (user 2 0 (7 ∷ []) ∷ []) refl refl
+    ∷ damaged 6 example (post 1 0 (5 ∷ []) ∷ []) refl refl
+    ∷ damaged 6 example (pending 1 0 (20 ∷ []) ∷ []) refl refl
     -- a pending number that is registered
-    ∷ damaged 7 example (pending 1 0 (9 ∷ [])) refl refl
+    ∷ damaged 7 example (pending 1 0 (9 ∷ []) ∷ []) refl refl
     -- slot 2 has slot 0 as a friend, and not the other way round
-    ∷ damaged 8 example (user 2 12 (1 ∷ [])) refl refl
+    ∷ damaged 8 example (user 2 12 (1 ∷ []) ∷ []) refl refl
     -- slot 2 as a friend of itself, requested by itself
-    ∷ damaged 9 example (user 2 12 (4 ∷ [])) refl refl
-    ∷ damaged 9 example (user 2 16 (4 ∷ [])) refl refl
+    ∷ damaged 9 example (user 2 12 (4 ∷ []) ∷ []) refl refl
+    ∷ damaged 9 example (user 2 16 (4 ∷ []) ∷ []) refl refl
     -- a friend, a request at slot 3, of three users
-    ∷ damaged 10 example (user 2 12 (8 ∷ [])) refl refl
-    ∷ damaged 10 example (user 2 16 (8 ∷ [])) refl refl
+    ∷ damaged 10 example (user 2 12 (8 ∷ []) ∷ []) refl refl
+    ∷ damaged 10 example (user 2 16 (8 ∷ []) ∷ []) refl refl
     -- a note whose request bit was cleared; a note to slot 31 from itself
-    ∷ damaged 11 example (user 0 16 (0 ∷ [])) refl refl
-    ∷ damaged 11 example (note 1023 0 (1 ∷ 0 ∷ 97 ∷ [])) refl refl
+    ∷ damaged 11 example (user 0 16 (0 ∷ []) ∷ []) refl refl
+    ∷ damaged 11 example (note 1023 0 (1 ∷ 0 ∷ 97 ∷ []) ∷ []) refl refl
     -- an owner at slot 3, of three users
-    ∷ damaged 12 example (post 1 8 (3 ∷ [])) refl refl
+    ∷ damaged 12 example (post 1 8 (3 ∷ []) ∷ []) refl refl
     -- visibility 2
-    ∷ damaged 13 example (post 1 10 (2 ∷ [])) refl refl
-    -- no users and one pending
-    ∷ record { clause = 14; board = encode pendingState; breaks = results-encode pendingState refl }
+    ∷ damaged 13 example (post 1 10 (2 ∷ []) ∷ []) refl refl
+    -- no users and one pending: its count and its number, on the empty board
+    ∷ damaged 14 empty (header 4 (1 ∷ []) ∷ pending 0 0 (1 ∷ []) ∷ []) refl refl
     ∷ []
 
 pub damagedBoards : List DamagedBoard
 damagedBoards = damagedTables ++ (damagedStrings ++ damagedStates)
 
-pub damaged-boards : map (λ (d : DamagedBoard). clauseResults (d .board)) damagedBoards
+pub damaged-boards : map (λ (d : DamagedBoard). clauseResults (boardOf d)) damagedBoards
     ≡ map (λ (d : DamagedBoard). set (replicate 15 true) (d .clause) false) damagedBoards
-damaged-boards = all damagedBoards
+damaged-boards = by-rows damagedBoards
   where
-    all : (ds : List DamagedBoard) → map (λ d. clauseResults (d .board)) ds ≡ map (λ d. set (replicate 15 true) (d .clause) false) ds
-    all [] = refl
-    all (d ∷ ds) = λ i. d .breaks i ∷ all ds i
+    by-rows : (ds : List DamagedBoard) → map (λ d. clauseResults (boardOf d)) ds ≡ map (λ d. set (replicate 15 true) (d .clause) false) ds
+    by-rows [] = refl
+    by-rows (d ∷ ds) = λ i. d .breaks i ∷ by-rows ds i
 
 sound-results : (b : List ℕ) → isSound b ≡ allTrue (clauseResults b)
 unfolding isSound
 sound-results b = refl
 
 -- so none of them is sound
-pub damaged-unsound : map (λ (d : DamagedBoard). isSound (d .board)) damagedBoards ≡ replicate 38 false
+pub damaged-unsound : map (λ (d : DamagedBoard). isSound (boardOf d)) damagedBoards ≡ replicate 38 false
 unfolding damagedBoards damagedTables damagedStrings damagedStates damaged allTrue forAll
 damaged-unsound = by-results damagedBoards
   where
-    by-results : (ds : List DamagedBoard) → map (λ d. isSound (d .board)) ds ≡ map (λ d. allTrue (set (replicate 15 true) (d .clause) false)) ds
+    by-results : (ds : List DamagedBoard) → map (λ d. isSound (boardOf d)) ds ≡ map (λ d. allTrue (set (replicate 15 true) (d .clause) false)) ds
     by-results [] = refl
-    by-results (d ∷ ds) = λ i. (sound-results (d .board) ∙ ap allTrue (d .breaks)) i ∷ by-results ds i
+    by-results (d ∷ ds) = λ i. (sound-results (boardOf d) ∙ ap allTrue (d .breaks)) i ∷ by-results ds i

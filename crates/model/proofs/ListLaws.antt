@@ -1,4 +1,4 @@
--- Laws of the tests over lists, and of `map` beside `set`, `take` and `drop`.
+-- Laws of the tests over lists, and of `map` beside `set` and `drop` (beside `take` it is in layout).
 use Prim.Native.Nat.{ℕ, zero, suc, _-_, _≤_, _<_}
 use native.Mathlib.Nat.{not-suc-le-zero, le-of-suc-le-suc, zero-lt-suc, eq-or-lt-of-le, sub-zero}
 use native.Mathlib.Omega.{arith}
@@ -98,11 +98,6 @@ module _ {A B : Type 0} (f : A → B) where
   map-set [] i a = refl
   map-set (x ∷ xs) zero a = refl
   map-set (x ∷ xs) (suc i) a = ap (λ (ys : List B). f x ∷ ys) (map-set xs i a)
-
-  pub map-take : (n : ℕ) (xs : List A) → map f (take n xs) ≡ take n (map f xs)
-  map-take zero xs = refl
-  map-take (suc n) [] = refl
-  map-take (suc n) (x ∷ xs) = ap (λ (ys : List B). f x ∷ ys) (map-take n xs)
 
   pub map-drop : (n : ℕ) (xs : List A) → map f (drop n xs) ≡ drop n (map f xs)
   map-drop zero xs = refl

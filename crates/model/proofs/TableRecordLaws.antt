@@ -13,10 +13,11 @@ use borrow.Author.Tests.{le-leb, leb-true}
 use Rattle.layout.specs.Bytes.{allZero}
 use Rattle.layout.proofs.BooleanLaws.{and-left, and-right, and-both}
 use Rattle.layout.proofs.ByteLaws.{zero-replicate, replicate-zero}
+use Rattle.layout.proofs.TableLaws.{map-take}
 use Rattle.model.specs.Lists.{forAll}
 use Rattle.model.specs.Board.{storedFits, recordBytes, tableRecords, tableFits}
 use Rattle.model.proofs.RecordLaws.{RecordCodec, length-codec}
-use Rattle.model.proofs.ListLaws.{all-append, all-map, all-weaken, all-replicate, all-take, all-drop, all-set, map-set, map-take, map-drop, map-replicate, drop-replicate, map-agree, map-constant}
+use Rattle.model.proofs.ListLaws.{all-append, all-map, all-weaken, all-replicate, all-take, all-drop, all-set, map-set, map-drop, map-replicate, drop-replicate, map-agree, map-constant}
 
 -- ---- zeros
 
@@ -133,11 +134,11 @@ module _ {A : Type 0} (c : RecordCodec A) (limit : ℕ) where
       → codecTable c limit (replicate n x) ≡ replicate limit (replicate (c .size) 0)
   unfolding bytes-of-record unused
   zero-table x e n h =
-      let all : n + (limit - n) ≡ limit = omega arith in
+      let whole : n + (limit - n) ≡ limit = omega arith in
       table-parts (replicate n x)
       ∙ ap₂ (λ (rs : List (List ℕ)) (k : ℕ). rs ++ replicate (limit - k) (replicate (c .size) 0))
       (map-replicate bytes-of-record n x ∙ ap (replicate n) e) (length-replicate n x)
-      ∙ replicate-append-replicate n (limit - n) (replicate (c .size) 0) ∙ ap (λ (k : ℕ). replicate k (replicate (c .size) 0)) all
+      ∙ replicate-append-replicate n (limit - n) (replicate (c .size) 0) ∙ ap (λ (k : ℕ). replicate k (replicate (c .size) 0)) whole
 
   -- ---- a record changed, added, removed
 
