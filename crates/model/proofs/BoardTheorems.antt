@@ -12,7 +12,8 @@ use Rattle.layout.specs.StringFields.{fieldString}
 use Rattle.layout.proofs.BooleanLaws.{and-both}
 use Rattle.model.specs.Lists.{forAll, allTrue}
 use Rattle.model.specs.State.{State, userLimit, postLimit, pendingLimit, noteCount}
-use Rattle.model.specs.Board.{boardSize, storedFits, headerFields, userFields, postFields, pendingFields, noteFields, decodeUser, decodePost, decodePending, cutBoard, recordsOf, userCount, postCount, pendingCount, stateOf, encode, decode, tableFits, stateFits}
+use Rattle.model.specs.Board.{boardSize, headerFields, userFields, postFields, pendingFields, noteFields, decodeUser, decodePost, decodePending, cutBoard, recordsOf, userCount, postCount, pendingCount, stateOf, encode, decode}
+use Rattle.model.proofs.StateRules.{storedFits, tableFits, stateFits}
 use Rattle.model.proofs.ListLaws.{true-at}
 use Rattle.model.proofs.RecordLaws.{storedSize, own-record, field-number}
 use Rattle.model.proofs.RecordTheorems.{length-header, userCodec, postCodec, pendingCodec, noteCodec}

@@ -13,8 +13,9 @@ use Rattle.layout.specs.StringFields.{isString, stringBytes, stringField, state
 use Rattle.layout.proofs.ConcatenationLaws.{flatten-append}
 use Rattle.model.specs.Lists.{forAll, allTrue, allBelow, contains, distinct}
 use Rattle.model.specs.State.{State, userLimit, postLimit, pendingLimit, noteCount, emptyState, userNumbers, postNumbers, pendingNumbers, userAt, notesTo}
-use Rattle.model.specs.Board.{boardSize, storedBytes, storedFits, recordBytes, headerFields, userFields, postFields, pendingFields, noteFields, decodeUser, decodePost, decodePending, BoardRecords, cutBoard, joinRecords, tableRecords, recordsOf, userCount, postCount, pendingCount, stateOf, encode, decode, tableFits, stateFits}
+use Rattle.model.specs.Board.{boardSize, storedBytes, recordBytes, headerFields, userFields, postFields, pendingFields, noteFields, decodeUser, decodePost, decodePending, BoardRecords, cutBoard, joinRecords, tableRecords, recordsOf, userCount, postCount, pendingCount, stateOf, encode, decode}
 use Rattle.model.specs.Soundness.{countsWithinLimits, unusedRecordsZero, userStrings, postStrings, pendingStrings, stringsWithinLimits, fillerZero, numbersNotZero, numbersDistinct, pendingNotRegistered, friendsSymmetric, noOwnBit, bitsBelowCount, notesRequested, ownersRegistered, visibilityValid, recordClauses, stateClauses, zeroWithoutUsers, clauseResults, isSound}
+use Rattle.model.proofs.StateRules.{storedFits, tableFits, stateFits}
 use Rattle.model.proofs.BoardTheorems.{fitting, right-sizes, length-encode, cut-encode}
 use Rattle.model.proofs.AllRecordLaws.{allRecords, allSizes, boardTables, flatten-all, sizes-all, length-all, cut-all, Write, writesBoard, writesRecords, writesPass, writes-records}
 

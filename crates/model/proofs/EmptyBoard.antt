@@ -1,7 +1,6 @@
 -- The empty board: it is the board of the empty state, and a state with no users that keeps the rules is the empty one.
 use Prim.Native.Nat.{ℕ, _+_, _*_, _≤_, zero-le}
 use native.Mathlib.Nat.{le-refl}
-use native.Mathlib.Omega.{arith}
 use mathlib.Core.Path.{_≡_, refl, sym, ap, _∙_}
 use mathlib.Core.List.{List, [], _∷_, flatten, append-nil, map-id}
 use mathlib.Core.Bool.{Bool, true, _||_, not}
@@ -13,10 +12,11 @@ use Rattle.layout.proofs.ConcatenationLaws.{flatten-zeros}
 use Rattle.layout.specs.StringFields.{isString}
 use Rattle.model.specs.Lists.{forAll, allTrue, allBelow, distinct}
 use Rattle.model.specs.State.{State, userLimit, postLimit, pendingLimit, noteCount, noUser, noPost, noPending, emptyState, userNumbers, postNumbers, pendingNumbers, userAt, notesTo}
-use Rattle.model.specs.Board.{storedBytes, recordBytes, headerFields, noteFields, joinRecords, recordsOf, encode, emptyBoard, storedFits, tableFits, stateFits}
-use Rattle.model.specs.Soundness.{numbersNotZero, numbersDistinct, pendingNotRegistered, friendsSymmetric, noOwnBit, bitsBelowCount, notesRequested, ownersRegistered, visibilityValid, nothingWithoutUsers, keepsRules}
+use Rattle.model.specs.Board.{storedBytes, recordBytes, headerFields, noteFields, joinRecords, recordsOf, encode, emptyBoard}
+use Rattle.model.specs.Soundness.{numbersNotZero, numbersDistinct, pendingNotRegistered, friendsSymmetric, noOwnBit, bitsBelowCount, notesRequested, ownersRegistered, visibilityValid}
+use Rattle.model.proofs.StateRules.{storedFits, tableFits, stateFits, nothingWithoutUsers, keepsRules}
 use Rattle.layout.specs.Bits.{bitAt, hasBit}
-use Rattle.model.proofs.ListLaws.{true-at, map-constant}
+use Rattle.model.proofs.ListLaws.{true-at, map-constant, length-nil}
 use Rattle.model.proofs.TableRecordLaws.{codecTable, zero-table}
 use Rattle.model.proofs.RecordLaws.{RecordCodec}
 use Rattle.model.proofs.RecordTheorems.{zero-user, zero-post, zero-pending, zero-note, userCodec, postCodec, pendingCodec, noteCodec}
@@ -65,10 +65,6 @@ unfolding keepsRules nothingWithoutUsers numbersNotZero numbersDistinct pendingN
 empty-keeps = refl
 
 -- a state with no users that keeps the rules is the empty state
-nil-of : {A : Type 0} (xs : List A) → length xs ≡ 0 → xs ≡ []
-nil-of [] e = refl
-nil-of (x ∷ xs) e = absurd (omega arith)
-
 pub no-users : (s : State) → FittingState s → nothingWithoutUsers s ≡ true → length (s .users) ≡ 0 → s ≡ emptyState
 unfolding nothingWithoutUsers emptyState
 no-users s f r z =
@@ -76,10 +72,10 @@ no-users s f r z =
     eqb (length (s .posts)) 0 ∷ eqb (length (s .pending)) 0 ∷ forAll (λ (note : List ℕ). eqb (length note) 0) (s .notes) ∷ []
     in
     let t : allTrue tests ≡ true = sym (ap (λ (n : ℕ). not (eqb n 0) || allTrue tests) z) ∙ r in
-    let us = nil-of (s .users) z in
-    let ps = nil-of (s .posts) (eqb-true (length (s .posts)) 0 (true-at tests 0 t (lit< tt))) in
-    let ks = nil-of (s .pending) (eqb-true (length (s .pending)) 0 (true-at tests 1 t (lit< tt))) in
-    let empty : (note : List ℕ) → eqb (length note) 0 ≡ true → note ≡ [] = λ note e. nil-of note (eqb-true (length note) 0 e) in
+    let us = length-nil (s .users) z in
+    let ps = length-nil (s .posts) (eqb-true (length (s .posts)) 0 (true-at tests 0 t (lit< tt))) in
+    let ks = length-nil (s .pending) (eqb-true (length (s .pending)) 0 (true-at tests 1 t (lit< tt))) in
+    let empty : (note : List ℕ) → eqb (length note) 0 ≡ true → note ≡ [] = λ note e. length-nil note (eqb-true (length note) 0 e) in
     let ns : s .notes ≡ replicate noteCount [] =
     sym (map-id (s .notes))
     ∙ map-constant (λ (note : List ℕ). eqb (length note) 0) (λ (note : List ℕ). note) [] empty (s .notes) (true-at tests 2 t (lit< tt))

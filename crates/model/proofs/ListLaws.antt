@@ -1,14 +1,19 @@
--- Laws of the tests over lists, and of `map` beside `set` and `drop` (beside `take` it is in layout).
+-- Laws of the tests over lists, of the numbers that a list contains and of `map` beside `set` and `drop` (beside `take` it is in layout).
 use Prim.Native.Nat.{ℕ, zero, suc, _-_, _≤_, _<_}
 use native.Mathlib.Nat.{not-suc-le-zero, le-of-suc-le-suc, zero-lt-suc, eq-or-lt-of-le, sub-zero}
 use native.Mathlib.Omega.{arith}
 use mathlib.Core.Path.{_≡_, refl, sym, ap, ap₂, _∙_}
 use mathlib.Core.Logic.{_⊎_, inl, inr}
-use mathlib.Core.List.{List, [], _∷_, _++_, map}
-use mathlib.Core.Bool.{Bool, true, _&&_, and-assoc}
-use lib.ListN.{length, take, drop, getD, set, replicate}
+use mathlib.Core.List.{List, [], _∷_, _++_, map, map-append}
+use mathlib.Core.Bool.{Bool, true, false, not, _&&_, _||_, and-assoc, or-assoc, true≢false}
+use lib.ListN.{length, take, drop, getD, set, replicate, List·getD-map}
+use lib.Seq.{map-set-same}
+use lib.Dec.{eqb, ltb, leb·zero, leb·suc-suc}
+use borrow.Author.Tests.{ltb-true, eqb-true, eqb-false, ne-eqb, not-true}
+use Rattle.bytes.specs.Bytes.{indexOf, indexAfter}
 use Rattle.layout.proofs.BooleanLaws.{and-left, and-right, and-both}
-use Rattle.model.specs.Lists.{forAll, allTrue, allBelow}
+use Rattle.layout.proofs.TableLaws.{map-take, index-found}
+use Rattle.model.specs.Lists.{forAll, allTrue, allBelow, contains, distinct, removeAt}
 
 -- ---- every element passes
 
@@ -130,3 +135,129 @@ unfolding forAll
 map-constant p f y h [] e = refl
 map-constant {B = B} p f y h (x ∷ xs) e =
     ap₂ (λ (z : B) (zs : List B). z ∷ zs) (h x (and-left (p x) (forAll p xs) e)) (map-constant p f y h xs (and-right (p x) (forAll p xs) e))
+
+pub length-nil : {A : Type 0} (xs : List A) → length xs ≡ 0 → xs ≡ []
+length-nil [] e = refl
+length-nil (x ∷ xs) e = absurd (omega arith)
+
+-- ---- numbers that a list contains
+
+pub contains-cons : (x y : ℕ) (ys : List ℕ) → contains x (y ∷ ys) ≡ (eqb y x || contains x ys)
+unfolding contains indexOf indexAfter
+contains-cons x y ys = by-test (eqb y x)
+  where
+    by-test : (t : Bool) → ltb (indexAfter t (indexOf x ys)) (suc (length ys)) ≡ (t || ltb (indexOf x ys) (length ys))
+    by-test true = leb·suc-suc 0 (length ys) ∙ leb·zero (length ys)
+    by-test false = leb·suc-suc (suc (indexOf x ys)) (length ys)
+
+pub contains-append : (x : ℕ) (xs ys : List ℕ) → contains x (xs ++ ys) ≡ (contains x xs || contains x ys)
+unfolding contains indexOf
+contains-append x [] ys = refl
+contains-append x (y ∷ xs) ys =
+    contains-cons x y (xs ++ ys) ∙ ap (λ (t : Bool). eqb y x || t) (contains-append x xs ys)
+    ∙ sym (or-assoc (eqb y x) (contains x xs) (contains x ys)) ∙ ap (λ (t : Bool). t || contains x ys) (sym (contains-cons x y xs))
+
+-- what all elements pass, a contained number passes
+pub all-contained : (p : ℕ → Bool) (xs : List ℕ) (x : ℕ) → forAll p xs ≡ true → contains x xs ≡ true → p x ≡ true
+unfolding contains
+all-contained p xs x e c =
+    let h : indexOf x xs < length xs = ltb-true (indexOf x xs) (length xs) c in
+    ap p (sym (index-found x xs h)) ∙ all-at p xs (indexOf x xs) 0 e h
+
+-- a number that a list does not contain
+module _ (x : ℕ) where
+  absent-cons : (y : ℕ) (ys : List ℕ) → contains x (y ∷ ys) ≡ false → (eqb y x ≡ false) × (contains x ys ≡ false)
+  absent-cons y ys e = by-test (eqb y x) (sym (contains-cons x y ys) ∙ e)
+    where
+      by-test : (t : Bool) → (t || contains x ys) ≡ false → (t ≡ false) × (contains x ys ≡ false)
+      by-test true q = absurd (true≢false q)
+      by-test false q = (refl, q)
+
+  cons-absent : (y : ℕ) (ys : List ℕ) → eqb y x ≡ false → contains x ys ≡ false → contains x (y ∷ ys) ≡ false
+  cons-absent y ys e f = contains-cons x y ys ∙ ap₂ (λ (t u : Bool). t || u) e f
+
+  pub absent-add : (xs : List ℕ) (y : ℕ) → contains x xs ≡ false → (y ≡ x → ⊥) → contains x (xs ++ (y ∷ [])) ≡ false
+  absent-add xs y e n =
+      contains-append x xs (y ∷ [])
+      ∙ ap₂ (λ (t u : Bool). t || u) e (cons-absent y [] (ne-eqb y x n) (unfold contains indexOf in refl))
+
+  pub absent-remove : (i : ℕ) (xs : List ℕ) → contains x xs ≡ false → contains x (removeAt i xs) ≡ false
+  unfolding removeAt
+  absent-remove zero [] e = e
+  absent-remove (suc i) [] e = e
+  absent-remove zero (y ∷ ys) e = absent-cons y ys e .1
+  absent-remove (suc i) (y ∷ ys) e = let a = absent-cons y ys e in cons-absent y (removeAt i ys) (a .0) (absent-remove i ys (a .1))
+
+-- where no number of ks is in xs, none is in xs with a further number
+pub none-in-add : (xs ks : List ℕ) (x : ℕ) → forAll (λ (k : ℕ). not (contains k xs)) ks ≡ true → contains x ks ≡ false
+    → forAll (λ (k : ℕ). not (contains k (xs ++ (x ∷ [])))) ks ≡ true
+unfolding forAll
+none-in-add xs [] x e n = refl
+none-in-add xs (k ∷ ks) x e n =
+    let a = absent-cons x k ks n in
+    let outside : Bool = forAll (λ (j : ℕ). not (contains j xs)) ks in
+    let first : contains k xs ≡ false = not-true (contains k xs) (and-left (not (contains k xs)) outside e) in
+    and-both (ap not (absent-add k xs x first (λ q. eqb-false k x (a .0) (sym q))))
+    (none-in-add xs ks x (and-right (not (contains k xs)) outside e) (a .1))
+
+-- ---- distinct numbers
+
+module _ (y : ℕ) (ys : List ℕ) (e : distinct (y ∷ ys) ≡ true) where
+  distinct-head : contains y ys ≡ false
+  unfolding distinct
+  distinct-head = not-true (contains y ys) (and-left (not (contains y ys)) (distinct ys) e)
+
+  distinct-tail : distinct ys ≡ true
+  unfolding distinct
+  distinct-tail = and-right (not (contains y ys)) (distinct ys) e
+
+pub distinct-add : (xs : List ℕ) (x : ℕ) → distinct xs ≡ true → contains x xs ≡ false → distinct (xs ++ (x ∷ [])) ≡ true
+unfolding distinct contains indexOf
+distinct-add [] x e n = refl
+distinct-add (y ∷ ys) x e n =
+    let a = absent-cons x y ys n in
+    and-both (ap not (absent-add y ys x (distinct-head y ys e) (λ q. eqb-false y x (a .0) (sym q)))) (distinct-add ys x (distinct-tail y ys e) (a .1))
+
+pub distinct-remove : (i : ℕ) (xs : List ℕ) → distinct xs ≡ true → distinct (removeAt i xs) ≡ true
+unfolding distinct removeAt
+distinct-remove zero [] e = e
+distinct-remove (suc i) [] e = e
+distinct-remove zero (y ∷ ys) e = distinct-tail y ys e
+distinct-remove (suc i) (y ∷ ys) e =
+    and-both (ap not (absent-remove y i ys (distinct-head y ys e))) (distinct-remove i ys (distinct-tail y ys e))
+
+-- removed from a list of distinct numbers, a number is no longer in it
+pub removed-absent : (x : ℕ) (xs : List ℕ) → distinct xs ≡ true → contains x (removeAt (indexOf x xs) xs) ≡ false
+unfolding removeAt indexOf indexAfter
+removed-absent x [] e = unfold contains in refl
+removed-absent x (y ∷ ys) e = by-test (eqb y x) refl (removed-absent x ys (distinct-tail y ys e))
+  where
+    by-test : (t : Bool) → eqb y x ≡ t → contains x (removeAt (indexOf x ys) ys) ≡ false
+        → contains x (removeAt (indexAfter t (indexOf x ys)) (y ∷ ys)) ≡ false
+    by-test true q f = ap (λ (z : ℕ). contains z ys) (sym (eqb-true y x q)) ∙ distinct-head y ys e
+    by-test false q f = cons-absent x y (removeAt (indexOf x ys) ys) q f
+
+-- ---- an element removed
+
+pub all-remove : {A : Type 0} (p : A → Bool) (i : ℕ) (xs : List A) → forAll p xs ≡ true → forAll p (removeAt i xs) ≡ true
+unfolding removeAt
+all-remove p i xs e =
+    all-append p (take i xs) (drop (suc i) xs) ∙ and-both (all-take p i xs e) (all-drop p (suc i) xs e)
+
+pub map-remove : {A B : Type 0} (f : A → B) (i : ℕ) (xs : List A) → map f (removeAt i xs) ≡ removeAt i (map f xs)
+unfolding removeAt
+map-remove {B = B} f i xs =
+    map-append f (take i xs) (drop (suc i) xs) ∙ ap₂ (λ (ys zs : List B). ys ++ zs) (map-take f i xs) (map-drop f (suc i) xs)
+
+-- ---- a field of the elements that a changed or an added element has too
+
+pub field-set : {A B : Type 0} (f : A → B) (xs : List A) (i : ℕ) (y d : A) → f y ≡ f (getD xs i d) → (j : ℕ)
+    → f (getD (set xs i y) j d) ≡ f (getD xs j d)
+field-set {B = B} f xs i y d e j =
+    sym (List·getD-map f (set xs i y) j d) ∙ ap (λ (ys : List B). getD ys j (f d)) (map-set-same f xs i y d e) ∙ List·getD-map f xs j d
+
+pub field-add : {A B : Type 0} (f : A → B) (xs : List A) (y d : A) → f y ≡ f d → (j : ℕ) → f (getD (xs ++ (y ∷ [])) j d) ≡ f (getD xs j d)
+field-add f [] y d e zero = e
+field-add f [] y d e (suc j) = refl
+field-add f (x ∷ xs) y d e zero = refl
+field-add f (x ∷ xs) y d e (suc j) = field-add f xs y d e j

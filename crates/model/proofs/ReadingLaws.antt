@@ -17,7 +17,8 @@ use Rattle.layout.proofs.TableLaws.{numbers-flatten}
 use Rattle.reader.specs.Fields.{nameLimit, infoLimit, titleLimit, textLimit, noteLimit, numberIn}
 use Rattle.model.specs.Lists.{forAll}
 use Rattle.model.specs.State.{User, Post, Pending, State, userLimit, postLimit, pendingLimit, noteCount, userNumbers, postNumbers, pendingNumbers, noUser, noPost, noPending, userAt, postAt, pendingAt, notesTo, noteAt}
-use Rattle.model.specs.Board.{StoredField, unsigned, string, filler, storedBytes, storedFits, recordBytes, stringAt, headerFields, userFields, postFields, pendingFields, noteFields, recordsOf, encode}
+use Rattle.model.specs.Board.{StoredField, unsigned, string, filler, storedBytes, recordBytes, stringAt, headerFields, userFields, postFields, pendingFields, noteFields, recordsOf, encode}
+use Rattle.model.proofs.StateRules.{storedFits}
 use Rattle.model.proofs.ListLaws.{all-at, map-agree}
 use Rattle.model.proofs.RecordLaws.{RecordCodec, storedSize, HoldsRecord, own-record, field-bytes, field-number, field-string}
 use Rattle.model.proofs.RecordTheorems.{userCodec, postCodec, pendingCodec, noteCodec}

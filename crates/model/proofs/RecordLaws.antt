@@ -18,7 +18,8 @@ use Rattle.layout.proofs.NumberLaws.{length-to, from-to, to-from, from-lt, byte
 use Rattle.layout.proofs.StringFieldLaws.{string-le, length-field, string-of-field, field-of-string, field-holds, holds-string}
 use Rattle.reader.specs.Fields.{numberIn}
 use Rattle.model.specs.Lists.{forAll}
-use Rattle.model.specs.Board.{StoredField, unsigned, string, filler, storedBytes, storedFits, recordBytes, stringAt}
+use Rattle.model.specs.Board.{StoredField, unsigned, string, filler, storedBytes, recordBytes, stringAt}
+use Rattle.model.proofs.StateRules.{storedFits}
 use Rattle.model.proofs.ListLaws.{all-at, map-set}
 
 -- ---- sizes

@@ -15,8 +15,9 @@ use Rattle.layout.proofs.StringFieldLaws.{string-of-field, field-of-string, fie
 use Rattle.reader.specs.Fields.{nameLimit, infoLimit, titleLimit, textLimit, noteLimit, numberIn}
 use Rattle.model.specs.Lists.{forAll, allTrue}
 use Rattle.model.specs.State.{User, Post, Pending, State, noUser, noPost, noPending}
-use Rattle.model.specs.Board.{StoredField, unsigned, filler, storedBytes, storedFits, recordBytes, headerFields, userFields, postFields, pendingFields, noteFields, decodeUser, decodePost, decodePending}
+use Rattle.model.specs.Board.{StoredField, unsigned, filler, storedBytes, recordBytes, headerFields, userFields, postFields, pendingFields, noteFields, decodeUser, decodePost, decodePending}
 use Rattle.model.specs.Soundness.{userStrings, postStrings, pendingStrings}
+use Rattle.model.proofs.StateRules.{storedFits}
 use Rattle.model.proofs.RecordLaws.{RecordCodec, storedSize, length-record, own-record, field-number, field-string, field-is-string, field-zero, fieldFrom, fieldsFrom, holdsField, holdsFields, isRecord, record-back}
 
 -- ---- a user

@@ -18,8 +18,9 @@ use Rattle.layout.proofs.NumberLaws.{bytes-bytesAt}
 use Rattle.reader.specs.Fields.{noteLimit}
 use Rattle.model.specs.Lists.{forAll, allTrue}
 use Rattle.model.specs.State.{State, noUser, noPost, noPending, userLimit, postLimit, pendingLimit, noteCount}
-use Rattle.model.specs.Board.{StoredField, userFields, postFields, pendingFields, boardSize, noteFields, BoardRecords, cutBoard, tableRecords, recordsOf, userCount, postCount, pendingCount, stateOf, tableFits}
+use Rattle.model.specs.Board.{StoredField, userFields, postFields, pendingFields, boardSize, noteFields, BoardRecords, cutBoard, tableRecords, recordsOf, userCount, postCount, pendingCount, stateOf}
 use Rattle.model.specs.Soundness.{countsWithinLimits, unusedRecordsZero, userStrings, postStrings, pendingStrings, stringsWithinLimits, fillerZero}
+use Rattle.model.proofs.StateRules.{tableFits}
 use Rattle.model.proofs.ListLaws.{true-at, all-take, all-and, all-weaken}
 use Rattle.model.proofs.RecordTheorems.{goodUser, goodPost, goodPending, goodNote, user-strings, post-strings, pending-strings, pending-filler, note-holds, header-filler, header-back, userCodec, postCodec, pendingCodec, noteCodec, user-holds, post-holds, pending-holds}
 use Rattle.model.proofs.TableRecordLaws.{codecFits, fits-count, used-pass, unused-zero, table-full, GoodTable, count-good, table-back, table-fits}

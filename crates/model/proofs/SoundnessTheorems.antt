@@ -1,5 +1,6 @@
 -- A board is sound exactly if it is the board of a state that fits and keeps the rules.
 use Prim.Native.Nat.{ℕ, _<_}
+use native.Mathlib.Omega.{arith}
 use mathlib.Core.Path.{_≡_, refl, sym, ap, ap₂, _∙_}
 use mathlib.Core.Logic.{_↔_}
 use mathlib.Core.List.{List, [], _∷_, _++_, map}
@@ -7,19 +8,21 @@ use mathlib.Core.Bool.{Bool, true, false, _&&_, _||_, not}
 use lib.ListN.{length, getD, replicate}
 use lib.Dec.{eqb, lit<}
 use lib.Pow.{areBytes}
-use borrow.Author.Tests.{eqb-true, eq-eqb, ne-eqb}
+use borrow.Author.Tests.{eqb-true, eqb-false, eq-eqb, ne-eqb}
 use borrow.Table.Steps.{cases}
 use Rattle.layout.specs.Bytes.{allZero}
 use Rattle.layout.proofs.BooleanLaws.{and-left, and-right, and-both}
 use Rattle.layout.proofs.ByteLaws.{zero-replicate, replicate-zero}
 use Rattle.model.specs.Lists.{forAll, allTrue}
 use Rattle.model.specs.State.{State, emptyState}
-use Rattle.model.specs.Board.{boardSize, BoardRecords, cutBoard, joinRecords, recordsOf, userCount, encode, decode, stateFits, emptyBoard}
-use Rattle.model.specs.Soundness.{countsWithinLimits, recordClauses, stateClauses, zeroWithoutUsers, clauseResults, isSound, nothingWithoutUsers, keepsRules}
+use Rattle.model.specs.Board.{boardSize, BoardRecords, cutBoard, joinRecords, recordsOf, userCount, encode, decode, emptyBoard}
+use Rattle.model.specs.Soundness.{countsWithinLimits, recordClauses, stateClauses, zeroWithoutUsers, clauseResults, isSound}
+use Rattle.model.proofs.StateRules.{stateFits, nothingWithoutUsers, keepsRules}
 use Rattle.model.proofs.ListLaws.{all-at, all-append, all-map}
 use Rattle.model.proofs.CutLaws.{join-cut}
 use Rattle.model.proofs.BoardTheorems.{Encodes, FittingState, fitting, fits-state, user-count, length-encode, cut-encode, decode-encode}
 use Rattle.model.proofs.SoundnessLaws.{counts-hold, unused-hold, strings-hold, filler-hold, RecordsHold, cut-bytes, records-state, state-fits}
+use Rattle.model.proofs.RuleLaws.{with-users}
 use Rattle.model.proofs.EmptyBoard.{empty-encoded, empty-fits, empty-nothing, empty-keeps, no-users}
 
 -- ---- the clauses joined
@@ -82,12 +85,6 @@ module _ (b : List ℕ) where
 
 -- ---- with no users
 
-some-users : (s : State) → eqb (length (s .users)) 0 ≡ false → nothingWithoutUsers s ≡ true
-unfolding nothingWithoutUsers
-some-users s e =
-    let others : Bool = allTrue (eqb (length (s .posts)) 0 ∷ eqb (length (s .pending)) 0 ∷ forAll (λ note. eqb (length note) 0) (s .notes) ∷ []) in
-    ap (λ (t : Bool). not t || others) e
-
 module _ (s : State) (f : FittingState s) where
   no-count : (t : Bool) → eqb (length (s .users)) 0 ≡ t → zeroWithoutUsers (encode s) ≡ (not t || allZero (encode s))
   unfolding zeroWithoutUsers
@@ -105,7 +102,8 @@ module _ (s : State) (f : FittingState s) where
   zero-rule : zeroWithoutUsers (encode s) ≡ true → nothingWithoutUsers s ≡ true
   zero-rule h =
       cases (eqb (length (s .users)) 0)
-      (λ e. ap nothingWithoutUsers (zeros-empty (sym (no-count true e) ∙ h)) ∙ empty-nothing) (some-users s)
+      (λ e. ap nothingWithoutUsers (zeros-empty (sym (no-count true e) ∙ h)) ∙ empty-nothing)
+      (λ e. let n = eqb-false (length (s .users)) 0 e in with-users s (omega arith))
 
   zero-bytes : nothingWithoutUsers s ≡ true → zeroWithoutUsers (encode s) ≡ true
   unfolding emptyBoard

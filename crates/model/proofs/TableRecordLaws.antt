@@ -15,7 +15,8 @@ use Rattle.layout.proofs.BooleanLaws.{and-left, and-right, and-both}
 use Rattle.layout.proofs.ByteLaws.{zero-replicate, replicate-zero}
 use Rattle.layout.proofs.TableLaws.{map-take}
 use Rattle.model.specs.Lists.{forAll}
-use Rattle.model.specs.Board.{storedFits, recordBytes, tableRecords, tableFits}
+use Rattle.model.specs.Board.{recordBytes, tableRecords}
+use Rattle.model.proofs.StateRules.{storedFits, tableFits}
 use Rattle.model.proofs.RecordLaws.{RecordCodec, length-codec}
 use Rattle.model.proofs.ListLaws.{all-append, all-map, all-weaken, all-replicate, all-take, all-drop, all-set, map-set, map-drop, map-replicate, drop-replicate, map-agree, map-constant}
 

@@ -2,11 +2,11 @@
 use Prim.Native.Nat.{ℕ, suc, _+_, _-_, _*_, _^_, _≤_, _<_}
 use native.Mathlib.Nat.{add-zero, mul-le-mul-right}
 use native.Mathlib.Omega.{arith}
-use mathlib.Core.Path.{_≡_, refl, sym, ap, _∙_, subst}
+use mathlib.Core.Path.{_≡_, refl, sym, ap, _∙_}
 use mathlib.Core.List.{List, [], _∷_, _++_, map, flatten, sum}
 use mathlib.Core.Bool.{true}
 use lib.ListN.{length, take, drop, getD, set, replicate, length-append, length-set, length-drop}
-use lib.Seq.{take-at, drop-at, length-take-le, getD-set-same, lt-length-set, set-append-seam}
+use lib.Seq.{take-at, drop-at, length-take-le, getD-set-same, lt-length-set}
 use lib.Dec.{lit<}
 use borrow.Author.Tests.{lt-ltb}
 use Rattle.layout.specs.Bytes.{bytesAt, patch, offset}
@@ -20,8 +20,10 @@ use Rattle.layout.proofs.TableLaws.{record-parts, without-table}
 use Rattle.reader.specs.Fields.{nameLimit, infoLimit, titleLimit, textLimit, noteLimit}
 use Rattle.model.specs.Lists.{forAll}
 use Rattle.model.specs.State.{User, Post, Pending, State, userLimit, postLimit, pendingLimit, noteCount, noUser, noPost, noPending, userAt, postAt, pendingAt}
-use Rattle.model.specs.Board.{boardSize, StoredField, unsigned, string, filler, storedBytes, storedFits, recordBytes, headerFields, userFields, postFields, pendingFields, noteFields, BoardRecords, joinRecords, recordsOf, encode, tableFits}
-use Rattle.model.proofs.StateUpdates.{withUsers, withPosts, withPending, withNotes, withUserNumber, withPassword, withFriends, withRequests, withName, withInfo, withPostNumber, withPicture, withOwner, withVisibility, withTitle, withText, withPendingNumber, withPendingNote}
+use Rattle.model.specs.Board.{boardSize, StoredField, unsigned, string, filler, storedBytes, recordBytes, headerFields, userFields, postFields, pendingFields, noteFields, BoardRecords, joinRecords, recordsOf, encode}
+use Rattle.model.specs.StateUpdates.{withUsers, withPosts, withPending, withNotes, withPassword, withFriends, withRequests, withName, withInfo, withPicture, withVisibility, withTitle, withText}
+use Rattle.model.proofs.StateRules.{storedFits, tableFits}
+use Rattle.model.proofs.FieldUpdates.{withUserNumber, withPostNumber, withOwner, withPendingNumber, withPendingNote}
 use Rattle.model.proofs.ListLaws.{all-at, all-set}
 use Rattle.model.proofs.RecordLaws.{RecordCodec, length-codec, storedSize, HoldsRecord, field-written}
 use Rattle.model.proofs.TableRecordLaws.{recordFits, codecFits, codecTable, fits-count, fits-records, fits-by, fits-set, fits-add, fits-remove, set-used, remove-used, sizes-table, table-wider, table-added}
@@ -151,20 +153,6 @@ module _ {A : Type 0} {b : List ℕ} {start limit : ℕ} {c : RecordCodec A} {xs
       → Encodes (patch b (start + i * c .size + offset (map storedSize (c .fields (getD xs i d))) k) (stringField bound x)) (put (set xs i y))
   unfolding storedBytes storedFits storedSize
   write-string bound x e z q = write-field (string bound x) e z q
-
--- a whole record
-module _ {A : Type 0} {b : List ℕ} {start limit : ℕ} {c : RecordCodec A} {xs : List A} {put : List A → State}
-    (t : StateTable b start limit c xs put) (i : ℕ) (h : i < length xs) (y : A) (e : recordFits c y ≡ true) where
-  write-record : Encodes (patch b (start + i * c .size) (recordBytes (c .fields y))) (put (set xs i y))
-  write-record =
-      let m = fits-count c limit xs (t .table .fits) in
-      let w = t .replaced (set xs i y) (fits-set c limit xs (t .table .fits) i y e) (length-set xs i y) in
-      record {
-        bytes = patch-record b start (c .size) limit (codecTable c limit xs) (t .table .bytes) (table-sizes (t .table)) i (omega arith)
-            (recordBytes (c .fields y)) (t .room) (length-codec c y e)
-            ∙ ap (λ (rs : List (List ℕ)). patch b start (flatten rs)) (set-used c limit xs i y h) ∙ w .bytes;
-        fits = w .fits;
-      }
 
 -- the header is the same where the counts are
 same-header : (s t : State) → length (s .users) ≡ length (t .users) → length (s .posts) ≡ length (t .posts)
@@ -428,33 +416,3 @@ module _ {b : List ℕ} {s : State} (w : Encodes b s) where
             ∙ count-written s t (w .fits) g 2 (length (s .pending) - 1) (lit< tt) refl (ap (λ (m : ℕ). set (headerFields s) 2 (unsigned 2 m)) l);
         fits = g;
       }
-
--- ---- a record added with its count and its fields
-
--- the new record takes the place of the one of zeros that was added by the count
-placed : {A : Type 0} {b : List ℕ} (put : List A → State) (xs : List A) (zero y : A)
-    → Encodes b (put (set (xs ++ (zero ∷ [])) (length xs) y)) → Encodes b (put (xs ++ (y ∷ [])))
-placed {b = b} put xs zero y w = subst (λ (ys : List _). Encodes b (put ys)) (set-append-seam xs zero [] y) w
-
-last-there : {A : Type 0} (xs : List A) (x : A) → length xs < length (xs ++ (x ∷ []))
-last-there xs x = let l = length-append xs (x ∷ []) in omega arith
-
-module _ {b : List ℕ} {s : State} (w : Encodes b s) where
-  pub append-user : (u : User) → forAll storedFits (userFields u) ≡ true → length (s .users) < userLimit
-      → Encodes (patch (patch b 0 (toLeBytes 2 (length (s .users) + 1))) (16 + length (s .users) * 104) (recordBytes (userFields u)))
-      (withUsers s (s .users ++ (u ∷ [])))
-  append-user u e h =
-      placed (withUsers s) (s .users) noUser u (write-record (users-table (add-user w h)) (length (s .users)) (last-there (s .users) noUser) u e)
-
-  pub append-post : (p : Post) → forAll storedFits (postFields p) ≡ true → length (s .posts) < postLimit
-      → Encodes (patch (patch b 2 (toLeBytes 2 (length (s .posts) + 1))) (3344 + length (s .posts) * 312) (recordBytes (postFields p)))
-      (withPosts s (s .posts ++ (p ∷ [])))
-  append-post p e h =
-      placed (withPosts s) (s .posts) noPost p (write-record (posts-table (add-post w h)) (length (s .posts)) (last-there (s .posts) noPost) p e)
-
-  pub append-pending : (p : Pending) → forAll storedFits (pendingFields p) ≡ true → length (s .pending) < pendingLimit
-      → Encodes (patch (patch b 4 (toLeBytes 2 (length (s .pending) + 1))) (23312 + length (s .pending) * 32) (recordBytes (pendingFields p)))
-      (withPending s (s .pending ++ (p ∷ [])))
-  append-pending p e h =
-      placed (withPending s) (s .pending) noPending p
-      (write-record (pending-table (add-pending w h)) (length (s .pending)) (last-there (s .pending) noPending) p e)

@@ -1,15 +1,12 @@
 -- "The board: 50,448 bytes". A board is cut into a header and the records of four tables at the paper's offsets; a state is laid out as
 -- such records.
-use Prim.Native.Nat.{ℕ, _+_, _-_, _^_}
+use Prim.Native.Nat.{ℕ, _+_, _-_}
 use mathlib.Core.List.{List, [], _∷_, _++_, map, flatten}
-use mathlib.Core.Bool.{Bool, true, _&&_}
 use lib.ListN.{length, take, replicate}
-use lib.Dec.{eqb, leb, ltb}
 use Rattle.layout.specs.Bytes.{bytesAt, pieces}
 use Rattle.layout.specs.Numbers.{toLeBytes}
-use Rattle.layout.specs.StringFields.{isString, stringField, fieldString}
+use Rattle.layout.specs.StringFields.{stringField, fieldString}
 use Rattle.reader.specs.Fields.{nameLimit, infoLimit, titleLimit, textLimit, noteLimit, numberIn}
-use Rattle.model.specs.Lists.{forAll, allTrue}
 use Rattle.model.specs.State.{User, Post, Pending, State, userLimit, postLimit, pendingLimit, noteCount}
 
 abbrev pub boardSize : ℕ
@@ -27,12 +24,6 @@ unfoldable pub storedBytes : StoredField → List ℕ
 storedBytes (unsigned width n) = toLeBytes width n
 storedBytes (string limit s) = stringField limit s
 storedBytes (filler n) = replicate n 0
-
--- the field has room for it
-unfoldable pub storedFits : StoredField → Bool
-storedFits (unsigned width n) = ltb n (256 ^ width)
-storedFits (string limit s) = isString limit s
-storedFits (filler n) = true
 
 -- a record is its fields, one behind the other
 unfoldable pub recordBytes : List StoredField → List ℕ
@@ -162,13 +153,3 @@ decode b = stateOf (cutBoard b)
 -- "All zeros is the empty board."
 unfoldable pub emptyBoard : List ℕ
 emptyBoard = replicate boardSize 0
-
--- a state fits the board: each list has room, and so has every field, and the notes are all there
-unfoldable pub tableFits : {A : Type 0} → ℕ → (A → List StoredField) → List A → Bool
-tableFits limit fields xs = leb (length xs) limit && forAll (λ x. forAll storedFits (fields x)) xs
-
-unfoldable pub stateFits : State → Bool
-stateFits s =
-    allTrue (tableFits userLimit userFields (s .users) ∷ tableFits postLimit postFields (s .posts)
-    ∷ tableFits pendingLimit pendingFields (s .pending) ∷ tableFits noteCount noteFields (s .notes)
-    ∷ eqb (length (s .notes)) noteCount ∷ [])

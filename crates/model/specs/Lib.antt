@@ -1,4 +1,12 @@
 pub mod Lists
 pub mod State
+pub mod StateUpdates
 pub mod Board
 pub mod Soundness
+pub mod Actions
+pub mod Lookups
+pub mod Refusals
+pub mod Changes
+pub mod Answers
+pub mod Step
+pub mod Replay

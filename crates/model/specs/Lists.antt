@@ -1,8 +1,8 @@
 -- Tests over lists, in the form in which the rules of a board are written down.
 use Prim.Native.Nat.{ℕ, zero, suc}
-use mathlib.Core.List.{List, [], _∷_}
+use mathlib.Core.List.{List, [], _∷_, _++_}
 use mathlib.Core.Bool.{Bool, true, not, _&&_}
-use lib.ListN.{length}
+use lib.ListN.{length, take, drop}
 use lib.Dec.{ltb}
 use Rattle.bytes.specs.Bytes.{indexOf}
 
@@ -28,3 +28,7 @@ contains x xs = ltb (indexOf x xs) (length xs)
 unfoldable pub distinct : List ℕ → Bool
 distinct [] = true
 distinct (x ∷ xs) = not (contains x xs) && distinct xs
+
+-- the list without its element at place i; the later ones move up
+unfoldable pub removeAt : {A : Type 0} → ℕ → List A → List A
+removeAt i xs = take i xs ++ drop (suc i) xs

@@ -118,14 +118,3 @@ clauseResults b =
 
 unfoldable pub isSound : List ℕ → Bool
 isSound b = allTrue (clauseResults b)
-
--- ---- the rules of a state: what the state of a sound board keeps
-
--- with no users there is nothing else
-unfoldable pub nothingWithoutUsers : State → Bool
-nothingWithoutUsers s =
-    not (eqb (length (s .users)) 0)
-    || allTrue (eqb (length (s .posts)) 0 ∷ eqb (length (s .pending)) 0 ∷ forAll (λ (note : List ℕ). eqb (length note) 0) (s .notes) ∷ [])
-
-unfoldable pub keepsRules : State → Bool
-keepsRules s = forAll (λ (rule : State → Bool). rule s) (nothingWithoutUsers ∷ stateClauses)

@@ -29,7 +29,7 @@ pub record Pending : Type 0 where
   pub number : ℕ
   pub note : List ℕ
 
--- "Users stand in order of registration, pending ones in order of asking, posts in order of creation." There is a note for each pair of
+-- "Users stand in order of registration, pending ones in order of asking, posts in order of creation". There is a note for each pair of
 -- slots, empty where there is no request.
 pub record State : Type 0 where
   pub users : List User

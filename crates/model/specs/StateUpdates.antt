@@ -1,4 +1,4 @@
--- States, users, posts and pending registrations with a part replaced: what the writing laws speak of.
+-- States, users and posts with a part replaced.
 use Prim.Native.Nat.{ℕ}
 use mathlib.Core.List.{List}
 use Rattle.model.specs.State.{User, Post, Pending, State}
@@ -19,9 +19,6 @@ withNotes s notes = record { users = s .users; posts = s .posts; pending = s .pe
 
 -- ---- a record with one of its fields replaced
 
-abbrev pub withUserNumber : User → ℕ → User
-withUserNumber u x = record { number = x; password = u .password; friends = u .friends; requests = u .requests; name = u .name; info = u .info }
-
 abbrev pub withPassword : User → ℕ → User
 withPassword u x = record { number = u .number; password = x; friends = u .friends; requests = u .requests; name = u .name; info = u .info }
 
@@ -37,14 +34,8 @@ withName u x = record { number = u .number; password = u .password; friends = u 
 abbrev pub withInfo : User → List ℕ → User
 withInfo u x = record { number = u .number; password = u .password; friends = u .friends; requests = u .requests; name = u .name; info = x }
 
-abbrev pub withPostNumber : Post → ℕ → Post
-withPostNumber p x = record { number = x; picture = p .picture; owner = p .owner; visibility = p .visibility; title = p .title; text = p .text }
-
 abbrev pub withPicture : Post → ℕ → Post
 withPicture p x = record { number = p .number; picture = x; owner = p .owner; visibility = p .visibility; title = p .title; text = p .text }
-
-abbrev pub withOwner : Post → ℕ → Post
-withOwner p x = record { number = p .number; picture = p .picture; owner = x; visibility = p .visibility; title = p .title; text = p .text }
 
 abbrev pub withVisibility : Post → ℕ → Post
 withVisibility p x = record { number = p .number; picture = p .picture; owner = p .owner; visibility = x; title = p .title; text = p .text }
@@ -54,9 +45,3 @@ withTitle p x = record { number = p .number; picture = p .picture; owner = p .ow
 
 abbrev pub withText : Post → List ℕ → Post
 withText p x = record { number = p .number; picture = p .picture; owner = p .owner; visibility = p .visibility; title = p .title; text = x }
-
-abbrev pub withPendingNumber : Pending → ℕ → Pending
-withPendingNumber p x = record { number = x; note = p .note }
-
-abbrev pub withPendingNote : Pending → List ℕ → Pending
-withPendingNote p x = record { number = p .number; note = x }

@@ -1,0 +1,412 @@
+-- The lettered cases and further cases as tables of journals and messages, with the number and the answer that the paper gives them, and the
+-- paper's listing. All are computed on states:
+--     lettered-computed, regression-computed, answers-computed   each table as one equation
+--     posts-computed                                         64 posts make an answer of 518 bytes
+--     listing-lines, listing-cut                             what the listing's messages get, and where it is cut
+-- CaseTheorems has the tables on bytes.
+use Prim.Native.Nat.{ℕ, zero, suc, _+_}
+use mathlib.Core.Path.{_≡_, refl}
+use mathlib.Core.List.{List, [], _∷_, _++_, map, flatten}
+use lib.ListN.{length, drop, replicate}
+use Rattle.layout.specs.Numbers.{toLeBytes}
+use Rattle.layout.specs.StringFields.{stringBytes}
+use Rattle.reader.specs.Frames.{frameLength, kindOf, bodyOf, frameBytes}
+use Rattle.model.specs.State.{emptyState}
+use Rattle.model.specs.Step.{answerLimit, Response, stepState}
+use Rattle.model.specs.Replay.{Exchange, framesOf, runFrames, runOf}
+use Rattle.model.proofs.RunLaws.{lastState}
+use Rattle.model.proofs.StepDefinitions.{stepDefinitions}
+
+-- ---- what a row expects
+
+-- a journal is the list of its messages, which startJournal on the empty board
+pub data Expectation : Type 0 where
+  -- after the journal the message gets the number and the answer, a whole frame
+  answerIs : (journal : List (List ℕ)) (message : List ℕ) (number : ℕ) (answer : List ℕ) → Expectation
+  -- after the journal both messages get the same number and answer
+  answersAgree : (journal : List (List ℕ)) (first second : List ℕ) → Expectation
+  -- both journals lead to the same board
+  boardsAgree : (first second : List (List ℕ)) → Expectation
+
+-- the number, and the frame without a body
+abbrev numberIs : List (List ℕ) → List ℕ → ℕ → Expectation
+numberIs journal message n = answerIs journal message n (frameBytes n [])
+
+pub data Outcome (S : Type 0) : Type 0 where
+  answerGiven : ℕ → List ℕ → Outcome S
+  boardLeft : S → Outcome S
+
+-- both sides of a row, for any step
+module _ {S : Type 0} (step : List ℕ → S → Response S) where
+  abbrev pub stateAfter : S → List (List ℕ) → S
+  stateAfter s messages = lastState s (runFrames step s messages)
+
+  unfoldable pub outcomeOf : S → List ℕ → Outcome S
+  outcomeOf s m = answerGiven (step m s .number) (step m s .answer)
+
+  unfoldable pub observed : S → Expectation → Outcome S
+  observed s (answerIs journal message n answer) = outcomeOf (stateAfter s journal) message
+  observed s (answersAgree journal first second) = outcomeOf (stateAfter s journal) first
+  observed s (boardsAgree first second) = boardLeft (stateAfter s first)
+
+  unfoldable pub expected : S → Expectation → Outcome S
+  expected s (answerIs journal message n answer) = answerGiven n answer
+  expected s (answersAgree journal first second) = outcomeOf (stateAfter s journal) second
+  expected s (boardsAgree first second) = boardLeft (stateAfter s second)
+
+-- ---- messages
+
+abbrev pub message : ℕ → List (List ℕ) → List ℕ
+message kind fields = frameBytes kind (flatten fields)
+
+-- U P: 0101, 0503, 0601 to 0605
+abbrev pub login : ℕ → ℕ → ℕ → List ℕ
+login kind u p = message kind (toLeBytes 4 u ∷ toLeBytes 8 p ∷ [])
+
+-- U P and a staff or post number: 0205, 0301, 0501, 0502, 0504 to 050A, 0606
+abbrev target : ℕ → ℕ → ℕ → ℕ → List ℕ
+target kind u p x = message kind (toLeBytes 4 u ∷ toLeBytes 8 p ∷ toLeBytes 4 x ∷ [])
+
+-- .. and a string: 0203, 0204, 0402, 0403
+abbrev pub targetString : ℕ → ℕ → ℕ → ℕ → List ℕ → List ℕ
+targetString kind u p x s = message kind (toLeBytes 4 u ∷ toLeBytes 8 p ∷ toLeBytes 4 x ∷ stringBytes s ∷ [])
+
+-- 0201 U note, 0202 U P V P2
+abbrev pub registrationRequest : ℕ → List ℕ → List ℕ
+registrationRequest u note = message 0x0201 (toLeBytes 4 u ∷ stringBytes note ∷ [])
+
+abbrev registration : ℕ → ℕ → ℕ → ℕ → List ℕ
+registration u p v p2 = message 0x0202 (toLeBytes 4 u ∷ toLeBytes 8 p ∷ toLeBytes 4 v ∷ toLeBytes 8 p2 ∷ [])
+
+-- 0401 U P P2 name info
+abbrev userUpdate : ℕ → ℕ → ℕ → List ℕ → List ℕ → List ℕ
+userUpdate u p p2 name info = message 0x0401 (toLeBytes 4 u ∷ toLeBytes 8 p ∷ toLeBytes 8 p2 ∷ stringBytes name ∷ stringBytes info ∷ [])
+
+-- 0404 U P N picture, 0405 U P N visibility
+abbrev pictureUpdate : ℕ → ℕ → ℕ → ℕ → List ℕ
+pictureUpdate u p n picture = message 0x0404 (toLeBytes 4 u ∷ toLeBytes 8 p ∷ toLeBytes 4 n ∷ toLeBytes 4 picture ∷ [])
+
+abbrev visibilityUpdate : ℕ → ℕ → ℕ → ℕ → List ℕ
+visibilityUpdate u p n visibility = message 0x0405 (toLeBytes 4 u ∷ toLeBytes 8 p ∷ toLeBytes 4 n ∷ toLeBytes 1 visibility ∷ [])
+
+-- ---- journals
+
+unfoldable pub numbersFrom : ℕ → ℕ → List ℕ
+numbersFrom first zero = []
+numbersFrom first (suc n) = first ∷ numbersFrom (suc first) n
+
+-- user 7 starts, with password 1
+abbrev pub startJournal : List (List ℕ)
+startJournal = login 0x0101 7 1 ∷ []
+
+-- .. and registration 9 with password 3, then 8 with password 2
+abbrev staff : List (List ℕ)
+staff = startJournal ++ (registrationRequest 9 [] ∷ registration 7 1 9 3 ∷ registrationRequest 8 [] ∷ registration 7 1 8 2 ∷ [])
+
+-- post 50 "Hi" of 9
+abbrev created : List (List ℕ)
+created = staff ++ (targetString 0x0203 9 3 50 (72 ∷ 105 ∷ []) ∷ [])
+
+-- .. with the text "abc"
+abbrev posted : List (List ℕ)
+posted = created ++ (targetString 0x0403 9 3 50 (97 ∷ 98 ∷ 99 ∷ []) ∷ [])
+
+-- .. with the text "abcd", then "ab"
+abbrev shortened : List (List ℕ)
+shortened = created ++ (targetString 0x0403 9 3 50 (97 ∷ 98 ∷ 99 ∷ 100 ∷ []) ∷ targetString 0x0403 9 3 50 (97 ∷ 98 ∷ []) ∷ [])
+
+-- 8 requests 9 with the note "a", 9 accepts
+abbrev befriended : List (List ℕ)
+befriended = posted ++ (targetString 0x0204 8 2 9 (97 ∷ []) ∷ target 0x0205 9 3 8 ∷ [])
+
+-- 8 ends the friendship
+abbrev unfriended : List (List ℕ)
+unfriended = befriended ++ (target 0x0301 8 2 9 ∷ [])
+
+-- posts 1 to 64 of 7; 101 to 116 ask; users 7 and 201 to 231
+abbrev pub fullPosts : List (List ℕ)
+fullPosts = startJournal ++ map (λ (n : ℕ). targetString 0x0203 7 1 n []) (numbersFrom 1 64)
+
+abbrev fullPending : List (List ℕ)
+fullPending = startJournal ++ map (λ (u : ℕ). registrationRequest u []) (numbersFrom 101 16)
+
+abbrev fullUsers : List (List ℕ)
+fullUsers = startJournal ++ flatten (map (λ (v : ℕ). registrationRequest v [] ∷ registration 7 1 v 5 ∷ []) (numbersFrom 201 31))
+
+-- ---- "Lettered cases"
+
+pub letteredCases : List Expectation
+letteredCases =
+    -- (a) "L 1: 3.": a message of L + 2 = 3 bytes, and one of 4
+    numberIs startJournal (1 ∷ 0 ∷ 1 ∷ []) 3
+    ∷ numberIs startJournal (1 ∷ 0 ∷ 1 ∷ 1 ∷ []) 3
+    -- (b) "Text of 256 bytes: 0."
+    ∷ numberIs posted (targetString 0x0403 9 3 50 (replicate 256 97)) 0
+    -- (c) "L 276 with a stated text length of 257: 5."
+    ∷ numberIs posted (message 0x0403 (toLeBytes 4 9 ∷ toLeBytes 8 3 ∷ toLeBytes 4 50 ∷ toLeBytes 2 257 ∷ replicate 256 97 ∷ [])) 5
+    -- (d) "0201 on the empty board: 6."
+    ∷ numberIs [] (registrationRequest 7 []) 6
+    -- (e) "Right password, non-admin 0502 for an absent number: 8, not 9."
+    ∷ numberIs staff (target 0x0502 8 2 99) 8
+    -- (f) "65th post, fresh number: 12."
+    ∷ numberIs fullPosts (targetString 0x0203 7 1 65 []) 12
+    -- (g) "65th post, used number: 11."
+    ∷ numberIs fullPosts (targetString 0x0203 7 1 64 []) 11
+    -- (h) "0204 to oneself: 11."
+    ∷ numberIs staff (targetString 0x0204 8 2 8 []) 11
+    -- (i) "0606 with V = U equals 0605.": with a friend and with none
+    ∷ answersAgree befriended (target 0x0606 8 2 8) (login 0x0605 8 2)
+    ∷ answersAgree staff (target 0x0606 8 2 8) (login 0x0605 8 2)
+    -- (j) "Friend unfriended, post not public: 0505 gives 10."
+    ∷ numberIs unfriended (target 0x0505 8 2 50) 10
+    -- (k) "Text "abcd" then "ab": the board equals one where only "ab" was sent."
+    ∷ boardsAgree shortened (created ++ (targetString 0x0403 9 3 50 (97 ∷ 98 ∷ []) ∷ []))
+    -- (l) "17th pending: 12; after one approval: 0."
+    ∷ numberIs fullPending (registrationRequest 117 []) 12
+    ∷ numberIs (fullPending ++ (registration 7 1 103 5 ∷ [])) (registrationRequest 117 []) 0
+    ∷ []
+
+pub lettered-computed : map (observed stepState emptyState) letteredCases ≡ map (expected stepState emptyState) letteredCases
+unfolding letteredCases observed expected outcomeOf lastState numbersFrom stepDefinitions
+lettered-computed = refl
+
+-- ---- "What a marker has caught before", the order of the refusals, and readings that are easily missed
+
+-- 103 of the sixteen is registered, and 117 registrationRequest
+abbrev pendingAgain : List (List ℕ)
+pendingAgain = fullPending ++ (registration 7 1 103 5 ∷ registrationRequest 117 [] ∷ [])
+
+-- after their friendship 8 requests 9 again, with the note "c"
+abbrev requestedAgain : List (List ℕ)
+requestedAgain = unfriended ++ (targetString 0x0204 8 2 9 (99 ∷ []) ∷ [])
+
+-- 8 requests 9 with the note "a", 9 requests 8 with the note "b", 9 accepts
+abbrev crossedRequests : List (List ℕ)
+crossedRequests = staff ++ (targetString 0x0204 8 2 9 (97 ∷ []) ∷ targetString 0x0204 9 3 8 (98 ∷ []) ∷ target 0x0205 9 3 8 ∷ [])
+
+-- all 32 users, and 101 registrationRequest
+abbrev fullUsersAsked : List (List ℕ)
+fullUsersAsked = fullUsers ++ (registrationRequest 101 [] ∷ [])
+
+-- all 32 users, and 231 in slot 31 requests 7 in slot 0
+abbrev lastSlotRequested : List (List ℕ)
+lastSlotRequested = fullUsers ++ (targetString 0x0204 231 5 7 (97 ∷ []) ∷ [])
+
+-- .. and 7 accepts
+abbrev lastSlotAccepted : List (List ℕ)
+lastSlotAccepted = lastSlotRequested ++ (target 0x0205 7 1 231 ∷ [])
+
+pub regressionCases : List Expectation
+regressionCases =
+    -- "A shorter text that leaves the old tail on the board.": (k), and the text that is read afterwards
+    answerIs shortened (target 0x0505 9 3 50) 0 (6 ∷ 0 ∷ 0 ∷ 0 ∷ 2 ∷ 0 ∷ 97 ∷ 98 ∷ [])
+    -- "An end of friendship on one side only.": friends on both sides, and afterwards on neither
+    ∷ answerIs befriended (login 0x0605 8 2) 0 (8 ∷ 0 ∷ 0 ∷ 0 ∷ 1 ∷ 0 ∷ 9 ∷ 0 ∷ 0 ∷ 0 ∷ [])
+    ∷ answerIs befriended (login 0x0605 9 3) 0 (8 ∷ 0 ∷ 0 ∷ 0 ∷ 1 ∷ 0 ∷ 8 ∷ 0 ∷ 0 ∷ 0 ∷ [])
+    ∷ answerIs unfriended (login 0x0605 8 2) 0 (4 ∷ 0 ∷ 0 ∷ 0 ∷ 0 ∷ 0 ∷ [])
+    ∷ answerIs unfriended (login 0x0605 9 3) 0 (4 ∷ 0 ∷ 0 ∷ 0 ∷ 0 ∷ 0 ∷ [])
+    ∷ numberIs unfriended (target 0x0301 8 2 9) 9
+    ∷ numberIs unfriended (target 0x0301 9 3 8) 9
+    -- .. and the friend reads, before it, the text that (j) refuses
+    ∷ answerIs befriended (target 0x0505 8 2 50) 0 (7 ∷ 0 ∷ 0 ∷ 0 ∷ 3 ∷ 0 ∷ 97 ∷ 98 ∷ 99 ∷ [])
+    -- "Rights looked up before the password.": 8 without a right gets 7 with a wrong password; 8 or 10 with the right one
+    ∷ numberIs posted (login 0x0601 8 5) 7
+    ∷ numberIs posted (login 0x0601 8 2) 8
+    ∷ numberIs posted (registration 8 5 101 5) 7
+    ∷ numberIs posted (registration 8 2 101 5) 8
+    ∷ numberIs posted (target 0x0502 8 5 101) 7
+    ∷ numberIs posted (target 0x0502 8 2 101) 8
+    ∷ numberIs posted (targetString 0x0402 8 5 50 []) 7
+    ∷ numberIs posted (targetString 0x0402 8 2 50 []) 10
+    ∷ numberIs posted (target 0x0505 8 5 50) 7
+    ∷ numberIs posted (target 0x0505 8 2 50) 10
+    ∷ numberIs posted (target 0x0606 8 5 9) 7
+    ∷ numberIs posted (target 0x0606 8 2 9) 10
+    -- a sender who is not registered, with the password of an unused record
+    ∷ numberIs posted (login 0x0601 99 0) 7
+    ∷ numberIs posted (target 0x0505 99 0 50) 7
+    -- "A slot of a pending request never used again.": sixteen in order of asking again, without 103, and one more gets 12
+    ∷ answerIs pendingAgain (login 0x0601 7 1) 0
+    (68 ∷ 0 ∷ 0 ∷ 0 ∷ 16 ∷ 0
+    ∷ 101 ∷ 0 ∷ 0 ∷ 0 ∷ 102 ∷ 0 ∷ 0 ∷ 0 ∷ 104 ∷ 0 ∷ 0 ∷ 0 ∷ 105 ∷ 0 ∷ 0 ∷ 0
+    ∷ 106 ∷ 0 ∷ 0 ∷ 0 ∷ 107 ∷ 0 ∷ 0 ∷ 0 ∷ 108 ∷ 0 ∷ 0 ∷ 0 ∷ 109 ∷ 0 ∷ 0 ∷ 0
+    ∷ 110 ∷ 0 ∷ 0 ∷ 0 ∷ 111 ∷ 0 ∷ 0 ∷ 0 ∷ 112 ∷ 0 ∷ 0 ∷ 0 ∷ 113 ∷ 0 ∷ 0 ∷ 0
+    ∷ 114 ∷ 0 ∷ 0 ∷ 0 ∷ 115 ∷ 0 ∷ 0 ∷ 0 ∷ 116 ∷ 0 ∷ 0 ∷ 0 ∷ 117 ∷ 0 ∷ 0 ∷ 0 ∷ [])
+    ∷ numberIs pendingAgain (registrationRequest 118 []) 12
+    -- .. and of a friend request: it is made again, with its new note
+    ∷ numberIs unfriended (targetString 0x0204 8 2 9 (99 ∷ [])) 0
+    ∷ answerIs requestedAgain (target 0x0509 9 3 8) 0 (5 ∷ 0 ∷ 0 ∷ 0 ∷ 1 ∷ 0 ∷ 99 ∷ [])
+    -- 0205 removes the request
+    ∷ numberIs befriended (target 0x0509 9 3 8) 9
+    ∷ numberIs befriended (target 0x050a 8 2 9) 9
+    ∷ numberIs befriended (target 0x0205 9 3 8) 9
+    ∷ answerIs befriended (login 0x0604 9 3) 0 (4 ∷ 0 ∷ 0 ∷ 0 ∷ 0 ∷ 0 ∷ [])
+    -- 0202 removes the pending registration
+    ∷ numberIs staff (target 0x0502 7 1 8) 9
+    ∷ numberIs staff (registration 7 1 8 2) 9
+    ∷ numberIs staff (registrationRequest 8 []) 11
+    ∷ answerIs staff (login 0x0601 7 1) 0 (4 ∷ 0 ∷ 0 ∷ 0 ∷ 0 ∷ 0 ∷ [])
+    -- "A text length or an edit count shown to somebody who may not read.": 3 bytes of text, and 256 after another update
+    ∷ answerIs posted (target 0x0505 8 2 50) 10 (2 ∷ 0 ∷ 10 ∷ 0 ∷ [])
+    ∷ answerIs (posted ++ (targetString 0x0403 9 3 50 (replicate 256 97) ∷ [])) (target 0x0505 8 2 50) 10 (2 ∷ 0 ∷ 10 ∷ 0 ∷ [])
+    -- 3 before 4 before 5 before 6 and 7: a bad frame of an unknown kind, an unknown kind with no body, 0101 with no body, a second 0101;
+    -- post number 0 with a wrong password
+    ∷ numberIs staff (3 ∷ 0 ∷ 7 ∷ 6 ∷ []) 3
+    ∷ numberIs staff (message 0x0607 []) 4
+    ∷ numberIs staff (message 0x0101 []) 5
+    ∷ numberIs staff (login 0x0101 99 5) 6
+    ∷ numberIs staff (target 0x0505 8 5 0) 5
+    -- 9: no such user, no such post
+    ∷ numberIs posted (target 0x0205 8 2 99) 9
+    ∷ numberIs posted (target 0x0301 8 2 99) 9
+    ∷ numberIs posted (target 0x0501 8 2 99) 9
+    ∷ numberIs posted (target 0x0509 8 2 99) 9
+    ∷ numberIs posted (target 0x050a 8 2 99) 9
+    ∷ numberIs posted (target 0x0508 8 2 51) 9
+    -- 7 before 9, 9 before 10
+    ∷ numberIs posted (target 0x0505 8 5 51) 7
+    ∷ numberIs posted (target 0x0505 8 2 51) 9
+    ∷ numberIs posted (targetString 0x0402 8 2 51 []) 9
+    ∷ numberIs posted (target 0x0606 8 5 99) 7
+    ∷ numberIs posted (target 0x0606 8 2 99) 9
+    -- 9 before 11: 0204 to nobody; 0205 between friends with no request, and 11 with a request left over, whose note is still there
+    ∷ numberIs staff (targetString 0x0204 8 2 99 []) 9
+    ∷ numberIs befriended (target 0x0205 8 2 9) 9
+    ∷ numberIs crossedRequests (target 0x0205 8 2 9) 11
+    ∷ answerIs crossedRequests (target 0x0509 8 2 9) 0 (5 ∷ 0 ∷ 0 ∷ 0 ∷ 1 ∷ 0 ∷ 98 ∷ [])
+    ∷ answerIs crossedRequests (target 0x050a 9 3 8) 0 (5 ∷ 0 ∷ 0 ∷ 0 ∷ 1 ∷ 0 ∷ 98 ∷ [])
+    -- 0301 leaves requests alone: the one left over is still there, and can be accepted
+    ∷ answerIs (crossedRequests ++ (target 0x0301 8 2 9 ∷ [])) (target 0x0509 8 2 9) 0 (5 ∷ 0 ∷ 0 ∷ 0 ∷ 1 ∷ 0 ∷ 98 ∷ [])
+    ∷ numberIs (crossedRequests ++ (target 0x0301 8 2 9 ∷ [])) (target 0x0205 8 2 9) 0
+    -- V = U: (h), and 9 for 0205, 0301, 0509, 050A; 0501 is accepted; 9 for 0202 and 0502, since the admin is not pending
+    ∷ numberIs posted (target 0x0205 8 2 8) 9
+    ∷ numberIs posted (target 0x0301 8 2 8) 9
+    ∷ numberIs posted (target 0x0509 8 2 8) 9
+    ∷ numberIs posted (target 0x050a 8 2 8) 9
+    ∷ answerIs posted (target 0x0501 8 2 8) 0 (6 ∷ 0 ∷ 0 ∷ 0 ∷ 0 ∷ 0 ∷ 0 ∷ 0 ∷ [])
+    ∷ numberIs posted (registration 7 1 7 5) 9
+    ∷ numberIs posted (target 0x0502 7 1 7) 9
+    -- the last slot, 31: requests and friends in both directions
+    ∷ answerIs lastSlotRequested (login 0x0604 7 1) 0 (8 ∷ 0 ∷ 0 ∷ 0 ∷ 1 ∷ 0 ∷ 231 ∷ 0 ∷ 0 ∷ 0 ∷ [])
+    ∷ answerIs lastSlotRequested (target 0x0509 7 1 231) 0 (5 ∷ 0 ∷ 0 ∷ 0 ∷ 1 ∷ 0 ∷ 97 ∷ [])
+    ∷ answerIs lastSlotAccepted (login 0x0605 7 1) 0 (8 ∷ 0 ∷ 0 ∷ 0 ∷ 1 ∷ 0 ∷ 231 ∷ 0 ∷ 0 ∷ 0 ∷ [])
+    ∷ answerIs lastSlotAccepted (login 0x0605 231 5) 0 (8 ∷ 0 ∷ 0 ∷ 0 ∷ 1 ∷ 0 ∷ 7 ∷ 0 ∷ 0 ∷ 0 ∷ [])
+    -- 0204 to a friend, and a second time
+    ∷ numberIs befriended (targetString 0x0204 9 3 8 []) 11
+    ∷ numberIs requestedAgain (targetString 0x0204 8 2 9 []) 11
+    -- 11 before 12: with 16 pending a registered and a pending number ask; 9 before 12: with 32 users nobody and one pending is registered
+    ∷ numberIs fullPending (registrationRequest 7 []) 11
+    ∷ numberIs fullPending (registrationRequest 116 []) 11
+    ∷ numberIs fullUsersAsked (registration 7 1 102 5) 9
+    ∷ numberIs fullUsersAsked (registration 7 1 101 5) 12
+    ∷ []
+
+pub regression-computed : map (observed stepState emptyState) regressionCases ≡ map (expected stepState emptyState) regressionCases
+unfolding regressionCases observed expected outcomeOf lastState numbersFrom stepDefinitions
+regression-computed = refl
+
+-- ---- the whole answers of 0501 to 0606, and the rights to posts
+
+-- pending 21 "x" and 20 "yz"; 9 has password 4 now, name "Bo", info "abc"; posts 50 of 8, 40 of 7, 45 of 9; post 50 has title "Hey", text
+-- "abc", picture 1 + 2 * 256 + 3 * 65,536 + 4 * 16,777,216 and is public; 8 requests 7 with the note "a", then 9 does with "bc"
+abbrev exampleJournal : List (List ℕ)
+exampleJournal =
+    staff
+    ++ (registrationRequest 21 (120 ∷ []) ∷ registrationRequest 20 (121 ∷ 122 ∷ []) ∷ userUpdate 9 3 4 (66 ∷ 111 ∷ []) (97 ∷ 98 ∷ 99 ∷ [])
+    ∷ targetString 0x0203 8 2 50 (72 ∷ 105 ∷ []) ∷ targetString 0x0203 7 1 40 [] ∷ targetString 0x0203 9 4 45 []
+    ∷ targetString 0x0402 8 2 50 (72 ∷ 101 ∷ 121 ∷ []) ∷ targetString 0x0403 8 2 50 (97 ∷ 98 ∷ 99 ∷ []) ∷ pictureUpdate 8 2 50 67305985
+    ∷ visibilityUpdate 8 2 50 1 ∷ targetString 0x0204 8 2 7 (97 ∷ []) ∷ targetString 0x0204 9 4 7 (98 ∷ 99 ∷ []) ∷ [])
+
+-- 7 accepts 8, then 9
+abbrev requestsAccepted : List (List ℕ)
+requestsAccepted = exampleJournal ++ (target 0x0205 7 1 8 ∷ target 0x0205 7 1 9 ∷ [])
+
+pub answerCases : List Expectation
+answerCases =
+    -- 0501: name and info, and of a user without
+    answerIs exampleJournal (target 0x0501 8 2 9) 0 (11 ∷ 0 ∷ 0 ∷ 0 ∷ 2 ∷ 0 ∷ 66 ∷ 111 ∷ 3 ∷ 0 ∷ 97 ∷ 98 ∷ 99 ∷ [])
+    ∷ answerIs exampleJournal (target 0x0501 9 4 8) 0 (6 ∷ 0 ∷ 0 ∷ 0 ∷ 0 ∷ 0 ∷ 0 ∷ 0 ∷ [])
+    -- 0502: note of a pending registration
+    ∷ answerIs exampleJournal (target 0x0502 7 1 20) 0 (6 ∷ 0 ∷ 0 ∷ 0 ∷ 2 ∷ 0 ∷ 121 ∷ 122 ∷ [])
+    -- 0503: the admin, another, and 9 with the password before 0401
+    ∷ answerIs exampleJournal (login 0x0503 7 1) 0 (3 ∷ 0 ∷ 0 ∷ 0 ∷ 1 ∷ [])
+    ∷ answerIs exampleJournal (login 0x0503 9 4) 0 (3 ∷ 0 ∷ 0 ∷ 0 ∷ 0 ∷ [])
+    ∷ numberIs exampleJournal (login 0x0503 9 3) 7
+    -- 0504 title, 0505 text, 0506 picture, 0507 visibility of a public post
+    ∷ answerIs exampleJournal (target 0x0504 9 4 50) 0 (7 ∷ 0 ∷ 0 ∷ 0 ∷ 3 ∷ 0 ∷ 72 ∷ 101 ∷ 121 ∷ [])
+    ∷ answerIs exampleJournal (target 0x0505 9 4 50) 0 (7 ∷ 0 ∷ 0 ∷ 0 ∷ 3 ∷ 0 ∷ 97 ∷ 98 ∷ 99 ∷ [])
+    ∷ answerIs exampleJournal (target 0x0506 9 4 50) 0 (6 ∷ 0 ∷ 0 ∷ 0 ∷ 1 ∷ 2 ∷ 3 ∷ 4 ∷ [])
+    ∷ answerIs exampleJournal (target 0x0507 9 4 50) 0 (3 ∷ 0 ∷ 0 ∷ 0 ∷ 1 ∷ [])
+    -- .. and no longer public
+    ∷ numberIs (exampleJournal ++ (visibilityUpdate 8 2 50 0 ∷ [])) (target 0x0505 9 4 50) 10
+    -- .. of a new post, for its owner
+    ∷ answerIs exampleJournal (target 0x0504 9 4 45) 0 (4 ∷ 0 ∷ 0 ∷ 0 ∷ 0 ∷ 0 ∷ [])
+    ∷ answerIs exampleJournal (target 0x0505 9 4 45) 0 (4 ∷ 0 ∷ 0 ∷ 0 ∷ 0 ∷ 0 ∷ [])
+    ∷ answerIs exampleJournal (target 0x0506 9 4 45) 0 (6 ∷ 0 ∷ 0 ∷ 0 ∷ 0 ∷ 0 ∷ 0 ∷ 0 ∷ [])
+    ∷ answerIs exampleJournal (target 0x0507 9 4 45) 0 (3 ∷ 0 ∷ 0 ∷ 0 ∷ 0 ∷ [])
+    -- .. for the admin, before and after becoming a friend of the owner
+    ∷ numberIs exampleJournal (target 0x0504 7 1 45) 10
+    ∷ numberIs exampleJournal (target 0x0505 7 1 45) 10
+    ∷ numberIs exampleJournal (target 0x0506 7 1 45) 10
+    ∷ numberIs exampleJournal (target 0x0507 7 1 45) 10
+    ∷ answerIs requestsAccepted (target 0x0505 7 1 45) 0 (4 ∷ 0 ∷ 0 ∷ 0 ∷ 0 ∷ 0 ∷ [])
+    -- 0508: owner's number, to any registered user
+    ∷ answerIs exampleJournal (target 0x0508 9 4 40) 0 (6 ∷ 0 ∷ 0 ∷ 0 ∷ 7 ∷ 0 ∷ 0 ∷ 0 ∷ [])
+    -- 0402 to 0405 are the owner's, of a public post and of a friend's
+    ∷ numberIs exampleJournal (targetString 0x0402 9 4 50 []) 10
+    ∷ numberIs exampleJournal (targetString 0x0403 9 4 50 []) 10
+    ∷ numberIs exampleJournal (pictureUpdate 9 4 50 0) 10
+    ∷ numberIs exampleJournal (visibilityUpdate 9 4 50 0) 10
+    ∷ numberIs requestsAccepted (targetString 0x0403 7 1 45 []) 10
+    -- 0509, 050a: note of a request to, and from, the sender
+    ∷ answerIs exampleJournal (target 0x0509 7 1 8) 0 (5 ∷ 0 ∷ 0 ∷ 0 ∷ 1 ∷ 0 ∷ 97 ∷ [])
+    ∷ answerIs exampleJournal (target 0x050a 9 4 7) 0 (6 ∷ 0 ∷ 0 ∷ 0 ∷ 2 ∷ 0 ∷ 98 ∷ 99 ∷ [])
+    -- 0601: pending ones in order of asking
+    ∷ answerIs exampleJournal (login 0x0601 7 1) 0 (12 ∷ 0 ∷ 0 ∷ 0 ∷ 2 ∷ 0 ∷ 21 ∷ 0 ∷ 0 ∷ 0 ∷ 20 ∷ 0 ∷ 0 ∷ 0 ∷ [])
+    -- 0602: users in order of registration
+    ∷ answerIs exampleJournal (login 0x0602 8 2) 0 (16 ∷ 0 ∷ 0 ∷ 0 ∷ 3 ∷ 0 ∷ 7 ∷ 0 ∷ 0 ∷ 0 ∷ 9 ∷ 0 ∷ 0 ∷ 0 ∷ 8 ∷ 0 ∷ 0 ∷ 0 ∷ [])
+    -- 0603: posts in order of creation, each number followed by its owner's
+    ∷ answerIs exampleJournal (login 0x0603 9 4) 0
+    (28 ∷ 0 ∷ 0 ∷ 0 ∷ 3 ∷ 0 ∷ 50 ∷ 0 ∷ 0 ∷ 0 ∷ 8 ∷ 0 ∷ 0 ∷ 0 ∷ 40 ∷ 0 ∷ 0 ∷ 0 ∷ 7 ∷ 0 ∷ 0 ∷ 0 ∷ 45 ∷ 0 ∷ 0 ∷ 0 ∷ 9 ∷ 0 ∷ 0 ∷ 0 ∷ [])
+    -- 0604, 0605, 0606 in order of registration: 9 before 8, who requested first and was accepted first
+    ∷ answerIs exampleJournal (login 0x0604 7 1) 0 (12 ∷ 0 ∷ 0 ∷ 0 ∷ 2 ∷ 0 ∷ 9 ∷ 0 ∷ 0 ∷ 0 ∷ 8 ∷ 0 ∷ 0 ∷ 0 ∷ [])
+    ∷ answerIs requestsAccepted (login 0x0605 7 1) 0 (12 ∷ 0 ∷ 0 ∷ 0 ∷ 2 ∷ 0 ∷ 9 ∷ 0 ∷ 0 ∷ 0 ∷ 8 ∷ 0 ∷ 0 ∷ 0 ∷ [])
+    ∷ answerIs requestsAccepted (target 0x0606 8 2 7) 0 (12 ∷ 0 ∷ 0 ∷ 0 ∷ 2 ∷ 0 ∷ 9 ∷ 0 ∷ 0 ∷ 0 ∷ 8 ∷ 0 ∷ 0 ∷ 0 ∷ [])
+    ∷ []
+
+pub answers-computed : map (observed stepState emptyState) answerCases ≡ map (expected stepState emptyState) answerCases
+unfolding answerCases observed expected outcomeOf lastState numbersFrom stepDefinitions
+answers-computed = refl
+
+-- ---- the longest answer
+
+-- 0603 with 64 posts
+pub posts-computed : length (stepState (login 0x0603 7 1) (stateAfter stepState emptyState fullPosts) .answer) ≡ answerLimit
+unfolding lastState numbersFrom stepDefinitions
+posts-computed = refl
+
+-- ---- the listing
+
+-- "Input, password 1 throughout: 0101 user 7; 0203 post 9 "Hi"; 0505 post 9; 0101 user 7; 0403 post 9 "abc" with password 2; 0603; a lone
+-- byte 05."
+unfoldable pub listing : List ℕ
+listing =
+    flatten (login 0x0101 7 1 ∷ targetString 0x0203 7 1 9 (72 ∷ 105 ∷ []) ∷ target 0x0505 7 1 9 ∷ login 0x0101 7 1
+    ∷ targetString 0x0403 7 2 9 (97 ∷ 98 ∷ 99 ∷ []) ∷ login 0x0603 7 1 ∷ (5 ∷ []) ∷ [])
+
+-- the message's kind, the number, and the length of the answer's body
+abbrev pub lineOf : {S : Type 0} → Exchange S → ℕ × ℕ × ℕ
+lineOf e = (kindOf (e .frame), e .response .number, length (bodyOf (e .response .answer)))
+
+-- "ok 0101 0", "ok 0203 0", "ok 0505 2", "no 0101 6", "no 0403 7", "ok 0603 10"
+abbrev pub listingLines : List (ℕ × ℕ × ℕ)
+listingLines = (0x0101, 0, 0) ∷ (0x0203, 0, 0) ∷ (0x0505, 0, 2) ∷ (0x0101, 6, 0) ∷ (0x0403, 7, 0) ∷ (0x0603, 0, 10) ∷ []
+
+pub listing-lines : map lineOf (runOf stepState emptyState listing) ≡ listingLines
+unfolding listing stepDefinitions
+listing-lines = refl
+
+-- "cut 117": the frames end there, and the rest is the lone byte, which is no frame
+pub listing-cut : (length (flatten (framesOf listing)) ≡ 117) × (drop 117 listing ≡ 5 ∷ []) × (frameLength (drop 117 listing) ≡ 0)
+unfolding listing stepDefinitions
+listing-cut = (refl, refl, refl)

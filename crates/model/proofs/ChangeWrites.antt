@@ -1,0 +1,217 @@
+-- For each kind that changes the board: these writes at these places are the encoding of that change.
+use Prim.Native.Nat.{ℕ, _+_, _-_, _*_, _^_, _≤_, _<_}
+use native.Mathlib.Omega.{arith}
+use mathlib.Core.Path.{_≡_, ap, _∙_, subst}
+use mathlib.Core.List.{List, [], _∷_, _++_}
+use mathlib.Core.Bool.{true}
+use lib.ListN.{length, getD, set, replicate, length-append, length-set}
+use lib.Seq.{getD-append-seam, getD-set-same, set-append-seam, set-set}
+use Rattle.layout.specs.Bytes.{patch}
+use Rattle.layout.specs.Numbers.{toLeBytes}
+use Rattle.layout.specs.StringFields.{isString, stringField}
+use Rattle.layout.specs.Tables.{withoutRecord}
+use Rattle.layout.specs.Bits.{setBit, clearBit}
+use Rattle.layout.proofs.BitLaws.{set-lt, clear-le}
+use Rattle.reader.specs.Fields.{nameLimit, infoLimit, titleLimit, textLimit, noteLimit}
+use Rattle.model.specs.Lists.{removeAt}
+use Rattle.model.specs.State.{User, Post, Pending, State, userLimit, postLimit, pendingLimit, noUser, noPost, noPending, userAt, postAt, pendingAt}
+use Rattle.model.specs.StateUpdates.{withUsers, withPosts, withPending, withPassword, withFriends, withRequests, withName, withInfo, withTitle}
+use Rattle.model.specs.Lookups.{userSlot, postPlace, pendingPlace, postNumbered}
+use Rattle.model.specs.Actions.{startSys, cNUReq, cUser, cPost, cFriendReq, cFriend, dFriend, uUser, uTitlePost, uTextPost, uImgPost, uVisPost}
+use Rattle.model.specs.Changes.{addUser, updateUser, writeFriend, updatePost, setNote, addRequest, removeRequest, addFriends, removeFriends, acceptRequest, applyChange}
+use Rattle.model.proofs.FieldUpdates.{withUserNumber, withPostNumber, withOwner, withPendingNumber, withPendingNote}
+use Rattle.model.proofs.RecordTheorems.{userCodec}
+use Rattle.model.proofs.TableRecordLaws.{fits-count}
+use Rattle.model.proofs.BoardTheorems.{Encodes}
+use Rattle.model.proofs.StoredValues.{friends-width, requests-width}
+use Rattle.model.proofs.WritingLaws.{write-user-number, write-user-password, write-user-friends, write-user-requests, write-user-name, write-user-info, write-post-number, write-post-picture, write-post-owner, write-post-visibility, write-post-title, write-post-text, write-pending-number, write-pending-note, write-note, clear-note, add-user, add-post, add-pending, remove-pending}
+
+-- ---- a record added at the end of its table, field by field
+
+-- a field of the last record written: the record is the last one still
+last-field : {A : Type 0} {b : List ℕ} (put : List A → State) (xs : List A) (x d : A) (f : A → A)
+    → Encodes b (put (set (xs ++ (x ∷ [])) (length xs) (f (getD (xs ++ (x ∷ [])) (length xs) d)))) → Encodes b (put (xs ++ (f x ∷ [])))
+last-field {b = b} put xs x d f w =
+    subst (λ ys. Encodes b (put ys))
+    (ap (λ y. set (xs ++ (x ∷ [])) (length xs) (f y)) (getD-append-seam xs x [] d) ∙ set-append-seam xs x [] (f x)) w
+
+-- a further field of the user in slot i written
+slot-field : {b : List ℕ} (s : State) (i : ℕ) (d : User) → i < length (s .users) → (x : User) (f : User → User)
+    → Encodes b (withUsers s (set (set (s .users) i x) i (f (getD (set (s .users) i x) i d)))) → Encodes b (withUsers s (set (s .users) i (f x)))
+slot-field {b = b} s i d h x f w =
+    subst (λ (us : List User). Encodes b (withUsers s us))
+    (ap (λ (y : User). set (set (s .users) i x) i (f y)) (getD-set-same (s .users) i x d h) ∙ set-set (s .users) i x (f x)) w
+
+last-there : {A : Type 0} (xs : List A) (x : A) → length xs < length (xs ++ (x ∷ []))
+last-there xs x = let l = length-append xs (x ∷ []) in omega arith
+
+-- the writes that add a user, a pending registration and a post as record n of its table: the count, then the fields that are not zero
+abbrev pub userAdded : List ℕ → ℕ → ℕ → ℕ → List ℕ
+userAdded b n u p = patch (patch (patch b 0 (toLeBytes 2 (n + 1))) (16 + n * 104) (toLeBytes 4 u)) (16 + n * 104 + 4) (toLeBytes 8 p)
+
+abbrev pub pendingAdded : List ℕ → ℕ → ℕ → List ℕ → List ℕ
+pendingAdded b n u note =
+    patch (patch (patch b 4 (toLeBytes 2 (n + 1))) (23312 + n * 32) (toLeBytes 4 u)) (23312 + n * 32 + 4) (stringField noteLimit note)
+
+abbrev pub postAdded : List ℕ → ℕ → ℕ → ℕ → List ℕ → List ℕ
+postAdded b n number owner title =
+    patch
+    (patch (patch (patch b 2 (toLeBytes 2 (n + 1))) (3344 + n * 312) (toLeBytes 4 number)) (3344 + n * 312 + 8) (toLeBytes 2 owner))
+    (3344 + n * 312 + 12)
+    (stringField titleLimit title)
+
+user-added : {b : List ℕ} {s : State} → Encodes b s → (u p : ℕ) → length (s .users) < userLimit → u < 2 ^ 32 → p < 2 ^ 64
+    → Encodes (userAdded b (length (s .users)) u p) (addUser s u p)
+unfolding addUser userAt
+user-added {s = s} w u p h hu hp =
+    let n : ℕ = length (s .users) in
+    let numbered = last-field (withUsers s) (s .users) noUser noUser (λ (a : User). withUserNumber a u)
+    (write-user-number (add-user w h) n (last-there (s .users) noUser) u hu) in
+    last-field (withUsers s) (s .users) (withUserNumber noUser u) noUser (λ (a : User). withPassword a p)
+    (write-user-password numbered n (last-there (s .users) (withUserNumber noUser u)) p hp)
+
+module _ {b : List ℕ} {s : State} (w : Encodes b s) where
+  -- 0101
+  pub writes-startSys : (u p : ℕ) → length (s .users) < userLimit → u < 2 ^ 32 → p < 2 ^ 64
+      → Encodes (userAdded b (length (s .users)) u p) (applyChange s (startSys u p))
+  unfolding applyChange
+  writes-startSys u p h hu hp = user-added w u p h hu hp
+
+  -- 0201
+  pub writes-cNUReq : (u : ℕ) (note : List ℕ) → length (s .pending) < pendingLimit → u < 2 ^ 32 → isString noteLimit note ≡ true
+      → Encodes (pendingAdded b (length (s .pending)) u note) (applyChange s (cNUReq u note))
+  unfolding applyChange pendingAt
+  writes-cNUReq u note h hu e =
+      let n : ℕ = length (s .pending) in
+      let numbered = last-field (withPending s) (s .pending) noPending noPending (λ (a : Pending). withPendingNumber a u)
+      (write-pending-number (add-pending w h) n (last-there (s .pending) noPending) u hu) in
+      last-field (withPending s) (s .pending) (withPendingNumber noPending u) noPending (λ (a : Pending). withPendingNote a note)
+      (write-pending-note numbered n (last-there (s .pending) (withPendingNumber noPending u)) note e)
+
+  -- 0203
+  pub writes-cPost : (u p n : ℕ) (title : List ℕ) → length (s .posts) < postLimit → n < 2 ^ 32 → userSlot s u < 2 ^ 16
+      → isString titleLimit title ≡ true → Encodes (postAdded b (length (s .posts)) n (userSlot s u) title) (applyChange s (cPost u p n title))
+  unfolding applyChange postAt
+  writes-cPost u p n title h hn ho e =
+      let m : ℕ = length (s .posts) in
+      let numbered = last-field (withPosts s) (s .posts) noPost noPost (λ (a : Post). withPostNumber a n)
+      (write-post-number (add-post w h) m (last-there (s .posts) noPost) n hn) in
+      let x : Post = withPostNumber noPost n in
+      let owned = last-field (withPosts s) (s .posts) x noPost (λ (a : Post). withOwner a (userSlot s u))
+      (write-post-owner numbered m (last-there (s .posts) x) (userSlot s u) ho) in
+      let y : Post = withOwner x (userSlot s u) in
+      last-field (withPosts s) (s .posts) y noPost (λ (a : Post). withTitle a title) (write-post-title owned m (last-there (s .posts) y) title e)
+
+  -- 0402 to 0405
+  module _ (u p n : ℕ) (h : postPlace s n < length (s .posts)) where
+    pub writes-uTitlePost : (title : List ℕ) → isString titleLimit title ≡ true
+        → Encodes (patch b (3344 + postPlace s n * 312 + 12) (stringField titleLimit title)) (applyChange s (uTitlePost u p n title))
+    unfolding applyChange updatePost postNumbered
+    writes-uTitlePost title e = write-post-title w (postPlace s n) h title e
+
+    pub writes-uTextPost : (text : List ℕ) → isString textLimit text ≡ true
+        → Encodes (patch b (3344 + postPlace s n * 312 + 54) (stringField textLimit text)) (applyChange s (uTextPost u p n text))
+    unfolding applyChange updatePost postNumbered
+    writes-uTextPost text e = write-post-text w (postPlace s n) h text e
+
+    pub writes-uImgPost : (picture : ℕ) → picture < 2 ^ 32
+        → Encodes (patch b (3344 + postPlace s n * 312 + 4) (toLeBytes 4 picture)) (applyChange s (uImgPost u p n picture))
+    unfolding applyChange updatePost postNumbered
+    writes-uImgPost picture l = write-post-picture w (postPlace s n) h picture l
+
+    pub writes-uVisPost : (visibility : ℕ) → visibility ≤ 1
+        → Encodes (patch b (3344 + postPlace s n * 312 + 10) (toLeBytes 2 visibility)) (applyChange s (uVisPost u p n visibility))
+    unfolding applyChange updatePost postNumbered
+    writes-uVisPost visibility l = write-post-visibility w (postPlace s n) h visibility (omega arith)
+
+  -- 0401
+  pub writes-uUser : (u p p2 : ℕ) (name info : List ℕ) → userSlot s u < length (s .users) → p2 < 2 ^ 64
+      → isString nameLimit name ≡ true → isString infoLimit info ≡ true
+      → Encodes (patch (patch (patch b (16 + userSlot s u * 104 + 4) (toLeBytes 8 p2)) (16 + userSlot s u * 104 + 20) (stringField nameLimit name))
+      (16 + userSlot s u * 104 + 46) (stringField infoLimit info)) (applyChange s (uUser u p p2 name info))
+  unfolding applyChange updateUser userAt
+  writes-uUser u p p2 name info h hp en ei =
+      let i : ℕ = userSlot s u in
+      let a : User = userAt s i in
+      let first = write-user-password w i h p2 hp in
+      let second = slot-field s i noUser h (withPassword a p2) (λ (x : User). withName x name)
+      (write-user-name first i (rw length-set h) name en) in
+      slot-field s i noUser h (withName (withPassword a p2) name) (λ (x : User). withInfo x info)
+      (write-user-info second i (rw length-set h) info ei)
+
+  -- 0202: for any n from the count to the limit the pending registration is removed from the first n records
+  pub writes-cUser : (u p v p2 n : ℕ) → pendingPlace s v < length (s .pending) → length (s .pending) ≤ n → n ≤ pendingLimit
+      → length (s .users) < userLimit → v < 2 ^ 32 → p2 < 2 ^ 64
+      → Encodes (userAdded (patch (withoutRecord b 23312 32 n (pendingPlace s v)) 4 (toLeBytes 2 (length (s .pending) - 1))) (length (s .users)) v p2)
+      (applyChange s (cUser u p v p2))
+  unfolding applyChange removeAt
+  writes-cUser u p v p2 n h hn hl hu hv hp = user-added (remove-pending w n (pendingPlace s v) hn hl h) v p2 hu hv hp
+
+  -- 0204
+  pub writes-cFriendReq : (u p v : ℕ) (note : List ℕ) → userSlot s u < length (s .users) → userSlot s v < length (s .users)
+      → isString noteLimit note ≡ true
+      → Encodes (patch (patch b (16 + userSlot s v * 104 + 16) (toLeBytes 4 (setBit (userAt s (userSlot s v) .requests) (userSlot s u))))
+      (23824 + (userLimit * userSlot s v + userSlot s u) * 26) (stringField noteLimit note)) (applyChange s (cFriendReq u p v note))
+  unfolding applyChange addRequest setNote updateUser
+  writes-cFriendReq u p v note hu hv e =
+      let i : ℕ = userSlot s v in
+      let j : ℕ = userSlot s u in
+      let n = fits-count userCodec userLimit (s .users) (w .fits .users) in
+      let row = set-lt 32 (userAt s i .requests) j (requests-width s (w .fits) i) (omega arith) in
+      write-note (write-user-requests w i hv (setBit (userAt s i .requests) j) row) (userLimit * i + j) (omega arith) note e
+
+-- the writes on both friend rows, where `f` sets or clears a bit; the second row is read after the first is written
+abbrev pub friendsWritten : (ℕ → ℕ → ℕ) → List ℕ → State → ℕ → ℕ → List ℕ
+friendsWritten f b s i j =
+    patch (patch b (16 + i * 104 + 12) (toLeBytes 4 (f (userAt s i .friends) j))) (16 + j * 104 + 12)
+    (toLeBytes 4 (f (userAt (writeFriend f s i j) j .friends) i))
+
+module _ (f : ℕ → ℕ → ℕ) (below : (row j : ℕ) → row < 2 ^ 32 → j < 32 → f row j < 2 ^ 32) where
+  friends-written : {b : List ℕ} {s : State} → Encodes b s → (i j : ℕ) → i < length (s .users) → j < length (s .users)
+      → Encodes (friendsWritten f b s i j) (writeFriend f (writeFriend f s i j) j i)
+  unfolding updateUser
+  friends-written {s = s} w i j hi hj =
+      let n = fits-count userCodec userLimit (s .users) (w .fits .users) in
+      let row : ℕ = f (userAt s i .friends) j in
+      let first = write-user-friends w i hi row (below (userAt s i .friends) j (friends-width s (w .fits) i) (omega arith)) in
+      let t : State = withUsers s (set (s .users) i (withFriends (userAt s i) row)) in
+      let same : length (t .users) ≡ length (s .users) = length-set (s .users) i (withFriends (userAt s i) row) in
+      write-user-friends first j (omega arith) (f (userAt t j .friends) i)
+      (below (userAt t j .friends) i (friends-width t (first .fits) j) (omega arith))
+
+-- the writes that remove slot j's request to slot i: the bit, and the note
+abbrev pub requestRemoved : List ℕ → State → ℕ → ℕ → List ℕ
+requestRemoved b s i j =
+    patch (patch b (16 + i * 104 + 16) (toLeBytes 4 (clearBit (userAt s i .requests) j))) (23824 + (userLimit * i + j) * 26) (replicate 26 0)
+
+request-removed : {b : List ℕ} {s : State} → Encodes b s → (i j : ℕ) → i < length (s .users) → j < length (s .users)
+    → Encodes (requestRemoved b s i j) (removeRequest s i j)
+unfolding removeRequest setNote updateUser
+request-removed {s = s} w i j hi hj =
+    let n = fits-count userCodec userLimit (s .users) (w .fits .users) in
+    let row = requests-width s (w .fits) i in
+    let le = clear-le (userAt s i .requests) j in
+    clear-note (write-user-requests w i hi (clearBit (userAt s i .requests) j) (omega arith)) (userLimit * i + j) (omega arith)
+
+set-below : (row j : ℕ) → row < 2 ^ 32 → j < 32 → setBit row j < 2 ^ 32
+set-below row j h l = set-lt 32 row j h l
+
+clear-below : (row j : ℕ) → row < 2 ^ 32 → j < 32 → clearBit row j < 2 ^ 32
+clear-below row j h l = let le = clear-le row j in omega arith
+
+module _ {b : List ℕ} {s : State} (w : Encodes b s) (u p v : ℕ) (hu : userSlot s u < length (s .users)) (hv : userSlot s v < length (s .users)) where
+  -- 0205
+  pub writes-cFriend :
+      Encodes (friendsWritten setBit (requestRemoved b s (userSlot s u) (userSlot s v)) (removeRequest s (userSlot s u) (userSlot s v))
+      (userSlot s u) (userSlot s v)) (applyChange s (cFriend u p v))
+  unfolding applyChange acceptRequest addFriends removeRequest setNote updateUser
+  writes-cFriend =
+      let i : ℕ = userSlot s u in
+      let j : ℕ = userSlot s v in
+      let same = length-set (s .users) i (withRequests (userAt s i) (clearBit (userAt s i .requests) j)) in
+      friends-written setBit set-below (request-removed w i j hu hv) i j (omega arith) (omega arith)
+
+  -- 0301
+  pub writes-dFriend : Encodes (friendsWritten clearBit b s (userSlot s u) (userSlot s v)) (applyChange s (dFriend u p v))
+  unfolding applyChange removeFriends
+  writes-dFriend = friends-written clearBit clear-below w (userSlot s u) (userSlot s v) hu hv

@@ -1,0 +1,133 @@
+-- CoSMed's safety properties (source document 001, section 5.1) on every valid state, so on every board that a replay leads to:
+--     owner-registered       1. the owner of an existing post is an existing user
+--     friendship-symmetric   2. friendship is symmetric
+--     friends-distinct, requests-distinct   3. the lists of friends and of friend requests contain no duplicates
+-- The fourth, that two with a pending request are not friends, does not hold here: two requests may cross, and accepting one leaves the
+-- other (document 01, 0205; `regressionCases` of CaseTable has the journal).
+use Prim.Native.Nat.{ℕ, zero, suc, _^_, _≤_, _<_}
+use native.Mathlib.Nat.{not-suc-le-zero, le-of-suc-le-suc, le-of-lt, le-refl}
+use mathlib.Core.Path.{_≡_, refl, sym, ap, _∙_}
+use mathlib.Core.List.{List, [], _∷_, _++_, map, map-append, append-nil}
+use mathlib.Core.Bool.{Bool, true, false, not, cond, _||_, true≢false}
+use lib.ListN.{length, getD, length-map, List·getD-map}
+use lib.Dec.{eqb, ltb}
+use borrow.Table.Steps.{cases}
+use borrow.Author.Tests.{ltb-true, ltb-false, eq-eqb, not-true}
+use Rattle.bytes.specs.Bytes.{indexOf}
+use Rattle.layout.specs.Bits.{hasBit, setPlaces}
+use Rattle.layout.proofs.BitLaws.{has-beyond}
+use Rattle.layout.proofs.BooleanLaws.{and-left, and-right}
+use Rattle.model.specs.Lists.{contains, distinct}
+use Rattle.model.specs.State.{User, Post, State, userLimit, noUser, noPost, userNumbers, userAt, postAt}
+use Rattle.model.specs.Lookups.{isRegistered, isPost, userSlot, postPlace, userNumbered, postNumbered, areFriends, ownerOf}
+use Rattle.model.specs.Answers.{usersIn}
+use Rattle.model.proofs.ListLaws.{all-at, contains-cons, absent-add, distinct-add}
+use Rattle.model.proofs.RuleLaws.{ValidState, Rules, rules-of}
+use Rattle.model.proofs.AcceptedLaws.{post-below}
+use Rattle.model.proofs.Invariant.{all-friends-below, all-requests-below, all-symmetric}
+
+-- ---- 1. owners
+
+contained-at : (xs : List ℕ) (i : ℕ) → i < length xs → contains (getD xs i 0) xs ≡ true
+contained-at [] i h = absurd (not-suc-le-zero h)
+contained-at (x ∷ xs) zero h = contains-cons x x xs ∙ ap (λ (t : Bool). t || contains x xs) (eq-eqb x x refl)
+contained-at (x ∷ xs) (suc i) h =
+    contains-cons (getD xs i 0) x xs ∙ ap (λ (t : Bool). eqb x (getD xs i 0) || t) (contained-at xs i (le-of-suc-le-suc h))
+    ∙ or-true (eqb x (getD xs i 0))
+  where
+    or-true : (a : Bool) → (a || true) ≡ true
+    or-true true = refl
+    or-true false = refl
+
+-- the number of the user in a used slot is registered
+slot-registered : (s : State) (i : ℕ) → i < length (s .users) → isRegistered s (userAt s i .number) ≡ true
+unfolding isRegistered userNumbers userAt
+slot-registered s i h =
+    let ns : List ℕ = map (λ (u : User). u .number) (s .users) in
+    ap (λ (x : ℕ). contains x ns) (sym (List·getD-map (λ (u : User). u .number) (s .users) i noUser)) ∙ contained-at ns i (rw length-map h)
+
+pub owner-registered : (s : State) → ValidState s → (n : ℕ) → isPost s n ≡ true → isRegistered s (ownerOf s (postNumbered s n) .number) ≡ true
+unfolding ownerOf postNumbered postAt
+owner-registered s valid n e =
+    let owner : ℕ = getD (s .posts) (postPlace s n) noPost .owner in
+    slot-registered s owner
+    (ltb-true owner (length (s .users))
+    (all-at (λ (p : Post). ltb (p .owner) (length (s .users))) (s .posts) (postPlace s n) noPost (rules-of s (valid .keeps) .owners)
+    (post-below s n e)))
+
+-- ---- 2. friendship, whoever the two are
+
+pub friendship-symmetric : (s : State) → ValidState s → (u v : ℕ) → areFriends s u v ≡ areFriends s v u
+unfolding areFriends userNumbered hasBit
+friendship-symmetric s valid u v = ap (λ (b : ℕ). eqb b 1) (all-symmetric s (rules-of s (valid .keeps)) (userSlot s u) (userSlot s v))
+
+-- ---- 3. lists without duplicates
+
+-- the numbers at two places of a list without duplicates differ
+distinct-places : (xs : List ℕ) → distinct xs ≡ true → (i j : ℕ) → i < j → j < length xs → getD xs i 0 ≡ getD xs j 0 → ⊥
+unfolding distinct
+distinct-places [] d i j h l e = absurd (not-suc-le-zero l)
+distinct-places (x ∷ xs) d i zero h l e = absurd (not-suc-le-zero h)
+distinct-places (x ∷ xs) d zero (suc j) h l e =
+    true≢false (sym (contained-at xs j (le-of-suc-le-suc l)) ∙ ap (λ (y : ℕ). contains y xs) (sym e)
+    ∙ not-true (contains x xs) (and-left (not (contains x xs)) (distinct xs) d))
+distinct-places (x ∷ xs) d (suc i) (suc j) h l e =
+    distinct-places xs (and-right (not (contains x xs)) (distinct xs) d) i j (le-of-suc-le-suc h) (le-of-suc-le-suc l) e
+
+module _ (xs : List ℕ) (d : distinct xs ≡ true) (row : ℕ) (b : row < 2 ^ length xs) where
+  at-places : ℕ → List ℕ
+  at-places k = map (λ (j : ℕ). getD xs j 0) (setPlaces row k)
+
+  -- at-places grows by one number or none
+  places-grow : (k : ℕ) → at-places (suc k) ≡ at-places k ++ cond (hasBit row k) (getD xs k 0 ∷ []) []
+  unfolding at-places setPlaces
+  places-grow k =
+      map-append (λ (j : ℕ). getD xs j 0) (setPlaces row k) (cond (hasBit row k) (k ∷ []) [])
+      ∙ ap (λ (l : List ℕ). at-places k ++ l) (by-bit (hasBit row k))
+    where
+      by-bit : (t : Bool) → map (λ (j : ℕ). getD xs j 0) (cond t (k ∷ []) []) ≡ cond t (getD xs k 0 ∷ []) []
+      by-bit true = refl
+      by-bit false = refl
+
+  places-absent : (j : ℕ) → j < length xs → (k : ℕ) → k ≤ j → contains (getD xs j 0) (at-places k) ≡ false
+  unfolding at-places setPlaces contains indexOf
+  places-absent j l zero h = refl
+  places-absent j l (suc k) h = ap (contains (getD xs j 0)) (places-grow k) ∙ by-bit (hasBit row k) (places-absent j l k (le-of-lt h))
+    where
+      by-bit : (t : Bool) → contains (getD xs j 0) (at-places k) ≡ false
+          → contains (getD xs j 0) (at-places k ++ cond t (getD xs k 0 ∷ []) []) ≡ false
+      by-bit true a = absent-add (getD xs j 0) (at-places k) (getD xs k 0) a (distinct-places xs d k j h l)
+      by-bit false a = ap (contains (getD xs j 0)) (append-nil (at-places k)) ∙ a
+
+  -- a set bit is below the length
+  bit-place : (k : ℕ) → hasBit row k ≡ true → k < length xs
+  bit-place k q = cases (ltb k (length xs)) (λ e. ltb-true k (length xs) e)
+      (λ e. absurd (true≢false (sym q ∙ has-beyond row (length xs) k b (ltb-false k (length xs) e))))
+
+  places-distinct : (k : ℕ) → distinct (at-places k) ≡ true
+  unfolding at-places setPlaces distinct
+  places-distinct zero = refl
+  places-distinct (suc k) = ap distinct (places-grow k) ∙ by-bit (hasBit row k) refl (places-distinct k)
+    where
+      by-bit : (t : Bool) → hasBit row k ≡ t → distinct (at-places k) ≡ true → distinct (at-places k ++ cond t (getD xs k 0 ∷ []) []) ≡ true
+      by-bit true q e = distinct-add (at-places k) (getD xs k 0) e (places-absent k (bit-place k q) k (le-refl k))
+      by-bit false q e = ap distinct (append-nil (at-places k)) ∙ e
+
+-- the users in a row of bits below the number of users
+users-distinct : (s : State) → Rules s → (row : ℕ) → row < 2 ^ length (s .users) → distinct (usersIn s row) ≡ true
+unfolding usersIn userAt userNumbers at-places
+users-distinct s rules row b =
+    let ns : List ℕ = map (λ (u : User). u .number) (s .users) in
+    ap (λ (f : ℕ → ℕ). distinct (map f (setPlaces row userLimit))) (λ i j. sym (List·getD-map (λ (u : User). u .number) (s .users) j noUser) i)
+    ∙ places-distinct ns (rules .users-distinct) row (rw length-map b) userLimit
+
+-- as 0605 and 0606 list them, and as 0604 does
+pub friends-distinct : (s : State) → ValidState s → (u : ℕ) → distinct (usersIn s (userNumbered s u .friends)) ≡ true
+unfolding userNumbered
+friends-distinct s valid u =
+    let rules = rules-of s (valid .keeps) in users-distinct s rules (userAt s (userSlot s u) .friends) (all-friends-below s rules (userSlot s u))
+
+pub requests-distinct : (s : State) → ValidState s → (u : ℕ) → distinct (usersIn s (userNumbered s u .requests)) ≡ true
+unfolding userNumbered
+requests-distinct s valid u =
+    let rules = rules-of s (valid .keeps) in users-distinct s rules (userAt s (userSlot s u) .requests) (all-requests-below s rules (userSlot s u))
