@@ -8,7 +8,7 @@ use mathlib.Core.Logic.{_≢_, inl, inr}
 use mathlib.Core.Bool.{Bool, true, false, cond}
 use mathlib.Core.List.{[], _∷_, List·Memᴰ, List·Memᴰ·head, List·Memᴰ·not-nil, List·Memᴰ·append-cases, List·Memᴰ·eq-of-singleton, Memᴰ·append-left, Memᴰ·append-right}
 use lib.ListN.{length, length-append}
-use lib.Dec.{eqb, ltb}
+use lib.Dec.{eqb, ltb, lit≤}
 use lib.Bits.{bitAnd, bitOr, and-high, or-shr, or-step, or-add-and, or-disjoint, or-lt, and-le-l}
 use lib.Count.{ones, ones-cat}
 use lib.Pow.{pow-pos, pow-mono, pow-lt, pow-add, high-ones, mod-pow-add, shl-shr}
@@ -175,6 +175,19 @@ length-places row (suc n) =
     one zero h = refl
     one (suc zero) h = refl
     one (suc (suc b)) h = absurd (omega arith)
+
+pub places-le : (row n : ℕ) → length (setPlaces row n) ≤ n
+unfolding setPlaces
+places-le row zero = lit≤ tt
+places-le row (suc j) =
+    let h = places-le row j in
+    let l = length-append (setPlaces row j) (cond (hasBit row j) (j ∷ []) []) in
+    let k = one-place (hasBit row j) in
+    omega arith
+  where
+    one-place : (b : Bool) → length {A = ℕ} (cond b (j ∷ []) []) ≤ 1
+    one-place true = lit≤ tt
+    one-place false = lit≤ tt
 
 pub place-member : (row n j : ℕ) → j < n → hasBit row j ≡ true → List·Memᴰ j (setPlaces row n)
 unfolding setPlaces

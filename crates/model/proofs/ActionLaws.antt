@@ -10,13 +10,13 @@ use lib.Dec.{eqb, leb, lit<}
 use borrow.Author.Tests.{leb-true}
 use Rattle.layout.specs.StringFields.{isString}
 use Rattle.layout.proofs.BooleanLaws.{and-left, and-right}
-use Rattle.reader.specs.Fields.{FieldType, uint, string, staffNumber, password, picture, visibility, userName, userInfo, requestNote, nameLimit, infoLimit, titleLimit, textLimit, noteLimit, FieldValue, numberValue, stringValue, outOfBody, fieldsFit, fieldValues, valueFits, valuesFit}
+use Rattle.reader.specs.Fields.{FieldType, uint, string, staffNumber, password, picture, visibility, userName, userInfo, requestNote, nameLimit, infoLimit, titleLimit, textLimit, noteLimit, FieldValue, numberValue, stringValue, outOfBody, fieldsFit, fieldValues, valueFits, valuesFit, valueNumber, valueString}
 use Rattle.reader.specs.Frames.{isFrame, kindOf, bodyOf}
 use Rattle.reader.specs.Kinds.{KindEntry, kinds, fieldsIn, kindFields}
 use Rattle.reader.specs.Messages.{content, bodyContent, messageContent}
 use Rattle.reader.proofs.FieldLaws.{targetFields}
 use Rattle.reader.proofs.MessageTheorems.{values-fit, value-at}
-use Rattle.model.specs.Actions.{Change, startSys, cNUReq, cUser, cPost, cFriendReq, cFriend, dFriend, uUser, uTitlePost, uTextPost, uImgPost, uVisPost, Action, change, query, refused, valueNumber, valueString, numberArg, stringArg, actionNamed, actionFrom, actionOf}
+use Rattle.model.specs.Actions.{Change, startSys, cNUReq, cUser, cPost, cFriendReq, cFriend, dFriend, uUser, uTitlePost, uTextPost, uImgPost, uVisPost, Action, change, query, refused, numberArg, stringArg, actionNamed, actionFrom, actionOf}
 
 -- ---- the conditions
 

@@ -1,19 +1,19 @@
 -- The lengths of answers:
 --     answer-short    no answer is longer than 518 bytes; 64 posts reach it (`posts-written` of CaseTheorems)
 --     posts-answer    a list of posts takes 2 bytes and 8 for each post
-use Prim.Native.Nat.{ℕ, zero, suc, _+_, _*_, _≤_}
+use Prim.Native.Nat.{ℕ, _+_, _*_, _≤_}
 use native.Mathlib.Nat.{zero-mul, suc-mul}
 use native.Mathlib.Omega.{arith}
 use mathlib.Core.Path.{_≡_, refl, sym, ap₂, _∙_}
 use mathlib.Core.List.{List, [], _∷_, map, flatten}
-use mathlib.Core.Bool.{Bool, true, false, cond}
 use mathlib.Core.Option.{Option, some, none}
 use lib.ListN.{length, length-append, length-map}
 use lib.Dec.{lit<, lit≤}
 use Rattle.layout.specs.Numbers.{toLeBytes}
 use Rattle.layout.specs.StringFields.{stringBytes}
-use Rattle.layout.specs.Bits.{hasBit, setPlaces}
+use Rattle.layout.specs.Bits.{setPlaces}
 use Rattle.layout.proofs.NumberLaws.{length-to}
+use Rattle.layout.proofs.BitLaws.{places-le}
 use Rattle.layout.proofs.StringFieldLaws.{length-stringBytes}
 use Rattle.reader.specs.Fields.{nameLimit, infoLimit, titleLimit, textLimit, noteLimit}
 use Rattle.reader.proofs.FrameLaws.{length-frame}
@@ -51,19 +51,6 @@ module _ {A : Type 0} (entry : A → List ℕ) (width : ℕ) (e : (x : A) → le
 length-staff : (ns : List ℕ) → length (staffList ns) ≡ 2 + length ns * 4
 unfolding staffList
 length-staff ns = length-counted (toLeBytes 4) 4 (length-to 4) ns
-
-places-le : (row n : ℕ) → length (setPlaces row n) ≤ n
-unfolding setPlaces
-places-le row zero = lit≤ tt
-places-le row (suc j) =
-    let h = places-le row j in
-    let l = length-append (setPlaces row j) (cond (hasBit row j) (j ∷ []) []) in
-    let k = one-place (hasBit row j) in
-    omega arith
-  where
-    one-place : (b : Bool) → length {A = ℕ} (cond b (j ∷ []) []) ≤ 1
-    one-place true = lit≤ tt
-    one-place false = lit≤ tt
 
 -- a list of posts takes 2 bytes and 8 for each post
 pub posts-answer : (s : State) → length (countedList (postEntry s) (s .posts)) ≡ 2 + length (s .posts) * 8

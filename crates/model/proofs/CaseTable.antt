@@ -14,7 +14,7 @@ use Rattle.reader.specs.Frames.{frameLength, kindOf, bodyOf, frameBytes}
 use Rattle.model.specs.State.{emptyState}
 use Rattle.model.specs.Step.{answerLimit, Response, stepState}
 use Rattle.model.specs.Replay.{Exchange, framesOf, runFrames, runOf}
-use Rattle.model.proofs.RunLaws.{lastState}
+use Rattle.model.proofs.JournalLaws.{lastState}
 use Rattle.model.proofs.StepDefinitions.{stepDefinitions}
 
 -- ---- what a row expects

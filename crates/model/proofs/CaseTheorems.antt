@@ -22,13 +22,12 @@ use Rattle.model.specs.Refusals.{rightOf, lacksRight, afterLogin, userRo
 use Rattle.model.specs.Answers.{staffList, usersIn, answerBody}
 use Rattle.model.specs.Step.{answerLimit, Response, respond, StepResult, stepAction, stepState, stepOf}
 use Rattle.model.specs.Replay.{framesOf, runFrames, runOf}
-use Rattle.model.proofs.BoardTheorems.{fitting}
-use Rattle.model.proofs.EmptyBoard.{empty-encoded, empty-fits, empty-keeps}
+use Rattle.model.proofs.EmptyBoard.{empty-encoded}
 use Rattle.model.proofs.RuleLaws.{ValidState}
-use Rattle.model.proofs.Invariant.{step-valid}
+use Rattle.model.proofs.Invariant.{empty-valid, step-valid}
 use Rattle.model.proofs.StepTheorems.{step-valid-board}
 use Rattle.model.proofs.BufferLaws.{take-start}
-use Rattle.model.proofs.RunLaws.{lastState, run-keeps}
+use Rattle.model.proofs.JournalLaws.{lastState, run-keeps}
 use Rattle.model.proofs.CaseTable.{Expectation, answerIs, answersAgree, boardsAgree, Outcome, answerGiven, boardLeft, stateAfter, outcomeOf, observed, expected, letteredCases, lettered-computed, regressionCases, regression-computed, answerCases, answers-computed, login, fullPosts, posts-computed, listing, lineOf, listingLines, listing-lines}
 
 -- ---- the step on boards alone
@@ -44,8 +43,8 @@ zeroBuffer = replicate answerLimit 0
 unfoldable pub boardStep : List ℕ → List ℕ → Response (List ℕ)
 boardStep msg board = responseOf (stepOf msg board zeroBuffer)
 
-pub zero-buffer-long : answerLimit ≤ length zeroBuffer
-zero-buffer-long = omega (arith, length-replicate {A = ℕ} answerLimit 0)
+pub zeros-long : (n : ℕ) → n ≤ length {A = ℕ} (replicate n 0)
+zeros-long n = omega (arith, length-replicate {A = ℕ} n 0)
 
 abbrev pub encodeResponse : Response State → Response (List ℕ)
 encodeResponse r = record { number = r .number; answer = r .answer; state = encode (r .state) }
@@ -54,7 +53,7 @@ pub board-step : (msg : List ℕ) (s : State) → ValidState s → boardStep msg
 unfolding boardStep
 board-step msg s valid =
     let r : Response State = stepState msg s in
-    ap responseOf (step-valid-board msg s zeroBuffer valid zero-buffer-long)
+    ap responseOf (step-valid-board msg s zeroBuffer valid (zeros-long answerLimit))
     ∙ (λ i. record { number = r .number; answer = take-start zeroBuffer (r .answer) i; state = encode (r .state) })
 
 -- ---- rows
@@ -62,9 +61,6 @@ board-step msg s valid =
 encodeOutcome : Outcome State → Outcome (List ℕ)
 encodeOutcome (answerGiven n a) = answerGiven n a
 encodeOutcome (boardLeft s) = boardLeft (encode s)
-
-pub empty-valid : ValidState emptyState
-empty-valid = record { fits = fitting emptyState empty-fits; keeps = empty-keeps }
 
 after-valid : (ms : List (List ℕ)) → ValidState (stateAfter stepState emptyState ms)
 after-valid ms = run-keeps stepState ValidState step-valid emptyState ms empty-valid
@@ -125,7 +121,8 @@ posts-written =
     let s : State = stateAfter stepState emptyState fullPosts in
     ap (λ (b : List ℕ). stepOf (login 0x0603 7 1) (stateAfter boardStep b fullPosts) zeroBuffer .written) (sym empty-encoded)
     ∙ ap (λ (b : List ℕ). stepOf (login 0x0603 7 1) b zeroBuffer .written) (after-encode emptyState empty-valid fullPosts)
-    ∙ ap (λ (r : StepResult). r .written) (step-valid-board (login 0x0603 7 1) s zeroBuffer (after-valid fullPosts) zero-buffer-long) ∙ posts-computed
+    ∙ ap (λ (r : StepResult). r .written) (step-valid-board (login 0x0603 7 1) s zeroBuffer (after-valid fullPosts) (zeros-long answerLimit))
+    ∙ posts-computed
 
 -- ---- (i) on every state: 0606 with V = U equals 0605
 

@@ -23,6 +23,7 @@ use Rattle.model.proofs.FieldUpdates.{withUserNumber, withPostNumber, w
 use Rattle.model.proofs.RecordTheorems.{userCodec}
 use Rattle.model.proofs.TableRecordLaws.{fits-count}
 use Rattle.model.proofs.BoardTheorems.{Encodes}
+use Rattle.model.proofs.RowInvariant.{BitWrite, set-writes, clear-writes}
 use Rattle.model.proofs.StoredValues.{friends-width, requests-width}
 use Rattle.model.proofs.WritingLaws.{write-user-number, write-user-password, write-user-friends, write-user-requests, write-user-name, write-user-info, write-post-number, write-post-picture, write-post-owner, write-post-visibility, write-post-title, write-post-text, write-pending-number, write-pending-note, write-note, clear-note, add-user, add-post, add-pending, remove-pending}
 
@@ -166,18 +167,18 @@ friendsWritten f b s i j =
     patch (patch b (16 + i * 104 + 12) (toLeBytes 4 (f (userAt s i .friends) j))) (16 + j * 104 + 12)
     (toLeBytes 4 (f (userAt (writeFriend f s i j) j .friends) i))
 
-module _ (f : ℕ → ℕ → ℕ) (below : (row j : ℕ) → row < 2 ^ 32 → j < 32 → f row j < 2 ^ 32) where
+module _ {f : ℕ → ℕ → ℕ} {value : ℕ} (write : BitWrite f value) where
   friends-written : {b : List ℕ} {s : State} → Encodes b s → (i j : ℕ) → i < length (s .users) → j < length (s .users)
       → Encodes (friendsWritten f b s i j) (writeFriend f (writeFriend f s i j) j i)
   unfolding updateUser
   friends-written {s = s} w i j hi hj =
       let n = fits-count userCodec userLimit (s .users) (w .fits .users) in
       let row : ℕ = f (userAt s i .friends) j in
-      let first = write-user-friends w i hi row (below (userAt s i .friends) j (friends-width s (w .fits) i) (omega arith)) in
+      let first = write-user-friends w i hi row (write .bound 32 (userAt s i .friends) j (friends-width s (w .fits) i) (omega arith)) in
       let t : State = withUsers s (set (s .users) i (withFriends (userAt s i) row)) in
       let same : length (t .users) ≡ length (s .users) = length-set (s .users) i (withFriends (userAt s i) row) in
       write-user-friends first j (omega arith) (f (userAt t j .friends) i)
-      (below (userAt t j .friends) i (friends-width t (first .fits) j) (omega arith))
+      (write .bound 32 (userAt t j .friends) i (friends-width t (first .fits) j) (omega arith))
 
 -- the writes that remove slot j's request to slot i: the bit, and the note
 abbrev pub requestRemoved : List ℕ → State → ℕ → ℕ → List ℕ
@@ -193,12 +194,6 @@ request-removed {s = s} w i j hi hj =
     let le = clear-le (userAt s i .requests) j in
     clear-note (write-user-requests w i hi (clearBit (userAt s i .requests) j) (omega arith)) (userLimit * i + j) (omega arith)
 
-set-below : (row j : ℕ) → row < 2 ^ 32 → j < 32 → setBit row j < 2 ^ 32
-set-below row j h l = set-lt 32 row j h l
-
-clear-below : (row j : ℕ) → row < 2 ^ 32 → j < 32 → clearBit row j < 2 ^ 32
-clear-below row j h l = let le = clear-le row j in omega arith
-
 module _ {b : List ℕ} {s : State} (w : Encodes b s) (u p v : ℕ) (hu : userSlot s u < length (s .users)) (hv : userSlot s v < length (s .users)) where
   -- 0205
   pub writes-cFriend :
@@ -209,9 +204,9 @@ module _ {b : List ℕ} {s : State} (w : Encodes b s) (u p v : ℕ) (hu : userSl
       let i : ℕ = userSlot s u in
       let j : ℕ = userSlot s v in
       let same = length-set (s .users) i (withRequests (userAt s i) (clearBit (userAt s i .requests) j)) in
-      friends-written setBit set-below (request-removed w i j hu hv) i j (omega arith) (omega arith)
+      friends-written set-writes (request-removed w i j hu hv) i j (omega arith) (omega arith)
 
   -- 0301
   pub writes-dFriend : Encodes (friendsWritten clearBit b s (userSlot s u) (userSlot s v)) (applyChange s (dFriend u p v))
   unfolding applyChange removeFriends
-  writes-dFriend = friends-written clearBit clear-below w (userSlot s u) (userSlot s v) hu hv
+  writes-dFriend = friends-written clear-writes w (userSlot s u) (userSlot s v) hu hv

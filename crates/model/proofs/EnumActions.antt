@@ -5,7 +5,7 @@ use mathlib.Core.Path.{_≡_, refl, sym, ap, ap₂, _∙_}
 use mathlib.Core.List.{List}
 use Rattle.layout.specs.Bytes.{bytesAt}
 use Rattle.reader.specs.Frames.{bodyOf}
-use Rattle.reader.specs.Fields.{nameLimit, infoLimit, titleLimit, textLimit, noteLimit}
+use Rattle.reader.specs.Fields.{nameLimit, infoLimit, titleLimit, textLimit, noteLimit, valueString, valueNumber}
 use Rattle.reader.specs.Kinds.{kinds}
 use Rattle.reader.specs.Messages.{messageContent, spanValue, enumContent}
 use Rattle.reader.specs.Spans.{SpanWithin}
@@ -17,7 +17,7 @@ use Rattle.reader.specs.declared.Message.the-variants.{StartSys, CNUReq, CUser,
 use Rattle.reader.proofs.MessageTheorems.{span-names, spans-within}
 use Rattle.model.specs.Actions.{startSys, cNUReq, cUser, cPost, cFriendReq, cFriend, dFriend, uUser, uTitlePost, uTextPost, uImgPost, uVisPost}
 use Rattle.model.specs.Actions.{rUser, rNUReq, rAmIAdmin, rTitlePost, rTextPost, rImgPost, rVisPost, rOwnerPost, rFriendReqToMe, rFriendReqFromMe, lPendingUReqs, lAllUsers, lAllPosts, lFriendReqs, lFriends, lFriendsOf}
-use Rattle.model.specs.Actions.{Action, change, query, refused, valueString, valueNumber, actionNamed, actionFrom, actionOf}
+use Rattle.model.specs.Actions.{Action, change, query, refused, actionNamed, actionFrom, actionOf}
 
 -- the bytes that a span names
 abbrev pub spanBytes : List ℕ → Span → List ℕ

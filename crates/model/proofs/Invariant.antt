@@ -1,5 +1,6 @@
--- The invariant: a step on a valid state gives a valid state (`step-valid`), because an accepted change does (`change-valid`). The kinds
--- that change rows of bits are in RowInvariant.
+-- The invariant: the empty state is valid (`empty-valid`), and a step on a valid state gives a valid state (`step-valid`), because an accepted
+-- change does (`change-valid`); so every state that a journal leads to is valid (`reached-valid`). The kinds that change rows of bits are in
+-- RowInvariant.
 use Prim.Native.Nat.{ℕ, _+_, _^_, _≤_, _<_, zero-le}
 use native.Mathlib.Nat.{lt-of-lt-of-le}
 use native.Mathlib.Omega.{arith}
@@ -29,13 +30,16 @@ use Rattle.model.specs.Actions.{Cause, malformed, Change, startSys, cNUR
 use Rattle.model.specs.Refusals.{rightOf, lacksRight, afterLogin, postRows, pendingRows, changeRefusals, queryRefusals, firstCause}
 use Rattle.model.specs.Changes.{addUser, updateUser, updatePost, applyChange}
 use Rattle.model.specs.Step.{respond, stepAction, stepState}
+use Rattle.model.specs.Replay.{framesOf, runOf}
 use Rattle.model.proofs.StateRules.{storedFits, tableFits}
 use Rattle.model.proofs.ListLaws.{all-at, all-append, all-set, all-weaken, all-remove, all-contained, none-in-add, distinct-add, distinct-remove, removed-absent, map-remove, field-set, field-add}
 use Rattle.model.proofs.RecordLaws.{RecordCodec}
 use Rattle.model.proofs.RecordTheorems.{userCodec, postCodec, pendingCodec}
 use Rattle.model.proofs.TableRecordLaws.{recordFits, codecFits, fits-count, fits-records, fits-set, fits-add, fits-remove}
 use Rattle.model.proofs.WritingLaws.{fits-users}
-use Rattle.model.proofs.EmptyBoard.{no-users}
+use Rattle.model.proofs.EmptyBoard.{no-users, empty-fits, empty-keeps}
+use Rattle.model.proofs.BoardTheorems.{fitting}
+use Rattle.model.proofs.JournalLaws.{lastState, run-keeps}
 use Rattle.model.proofs.ActionLaws.{ValidNumber, ChangeFits, ActionFits, action-fits}
 use Rattle.model.proofs.AcceptedLaws.{none-applies, slot-below, post-below}
 use Rattle.model.proofs.RowInvariant.{friend-request-valid, friend-valid, unfriend-valid}
@@ -416,3 +420,12 @@ step-valid msg s v = by-action (actionOf msg) (action-fits msg)
     by-action (change c) f = by-change c f (firstCause (changeRefusals s c)) refl
     by-action (query q) f = by-answer (firstCause (queryRefusals s q)) (answerBody s q)
     by-action (refused refusal) f = by-answer (some (malformed refusal)) []
+
+-- ---- every state that a journal leads to
+
+pub empty-valid : ValidState emptyState
+empty-valid = record { fits = fitting emptyState empty-fits; keeps = empty-keeps }
+
+pub reached-valid : (j : List ℕ) → ValidState (lastState emptyState (runOf stepState emptyState j))
+unfolding runOf
+reached-valid j = run-keeps stepState ValidState step-valid emptyState (framesOf j) empty-valid

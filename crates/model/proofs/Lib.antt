@@ -20,7 +20,7 @@ pub mod EnumActions
 pub mod RefusalTheorems
 pub mod StepDefinitions
 pub mod BufferLaws
-pub mod RunLaws
+pub mod JournalLaws
 pub mod CaseTable
 pub mod ActionLaws
 pub mod AcceptedLaws

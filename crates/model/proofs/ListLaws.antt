@@ -5,11 +5,11 @@ use native.Mathlib.Omega.{arith}
 use mathlib.Core.Path.{_≡_, refl, sym, ap, ap₂, _∙_}
 use mathlib.Core.Logic.{_⊎_, inl, inr}
 use mathlib.Core.List.{List, [], _∷_, _++_, map, map-append}
-use mathlib.Core.Bool.{Bool, true, false, not, _&&_, _||_, and-assoc, or-assoc, true≢false}
+use mathlib.Core.Bool.{Bool, true, false, not, _&&_, _||_, and-assoc, or-assoc, true≢false, or-true}
 use lib.ListN.{length, take, drop, getD, set, replicate, List·getD-map}
 use lib.Seq.{map-set-same}
 use lib.Dec.{eqb, ltb, leb·zero, leb·suc-suc}
-use borrow.Author.Tests.{ltb-true, eqb-true, eqb-false, ne-eqb, not-true}
+use borrow.Author.Tests.{ltb-true, eqb-true, eqb-false, ne-eqb, not-true, eq-eqb}
 use Rattle.bytes.specs.Bytes.{indexOf, indexAfter}
 use Rattle.layout.proofs.BooleanLaws.{and-left, and-right, and-both}
 use Rattle.layout.proofs.TableLaws.{map-take, index-found}
@@ -61,6 +61,13 @@ pub all-map : {A B : Type 0} (p : B → Bool) (f : A → B) (xs : List A) → fo
 unfolding forAll
 all-map p f [] = refl
 all-map p f (x ∷ xs) = ap (λ (t : Bool). p (f x) && t) (all-map p f xs)
+
+-- what passes in a list passes at any place, if the default passes too
+pub all-default : {A : Type 0} (p : A → Bool) (d : A) → p d ≡ true → (xs : List A) → forAll p xs ≡ true → (i : ℕ) → p (getD xs i d) ≡ true
+unfolding forAll
+all-default p d z [] e i = z
+all-default p d z (x ∷ xs) e zero = and-left (p x) (forAll p xs) e
+all-default p d z (x ∷ xs) e (suc i) = all-default p d z xs (and-right (p x) (forAll p xs) e) i
 
 -- a test of a list of them
 pub true-at : (tests : List Bool) (i : ℕ) → allTrue tests ≡ true → i < length tests → getD tests i true ≡ true
@@ -150,6 +157,13 @@ contains-cons x y ys = by-test (eqb y x)
     by-test true = leb·suc-suc 0 (length ys) ∙ leb·zero (length ys)
     by-test false = leb·suc-suc (suc (indexOf x ys)) (length ys)
 
+pub contained-at : (xs : List ℕ) (i : ℕ) → i < length xs → contains (getD xs i 0) xs ≡ true
+contained-at [] i h = absurd (not-suc-le-zero h)
+contained-at (x ∷ xs) zero h = contains-cons x x xs ∙ ap (λ (t : Bool). t || contains x xs) (eq-eqb x x refl)
+contained-at (x ∷ xs) (suc i) h =
+    contains-cons (getD xs i 0) x xs ∙ ap (λ (t : Bool). eqb x (getD xs i 0) || t) (contained-at xs i (le-of-suc-le-suc h))
+    ∙ or-true (eqb x (getD xs i 0))
+
 pub contains-append : (x : ℕ) (xs ys : List ℕ) → contains x (xs ++ ys) ≡ (contains x xs || contains x ys)
 unfolding contains indexOf
 contains-append x [] ys = refl
@@ -210,6 +224,16 @@ module _ (y : ℕ) (ys : List ℕ) (e : distinct (y ∷ ys) ≡ true) where
   distinct-tail : distinct ys ≡ true
   unfolding distinct
   distinct-tail = and-right (not (contains y ys)) (distinct ys) e
+
+-- the numbers at two places of a list without duplicates differ
+pub distinct-places : (xs : List ℕ) → distinct xs ≡ true → (i j : ℕ) → i < j → j < length xs → getD xs i 0 ≡ getD xs j 0 → ⊥
+distinct-places [] d i j h l e = absurd (not-suc-le-zero l)
+distinct-places (x ∷ xs) d i zero h l e = absurd (not-suc-le-zero h)
+distinct-places (x ∷ xs) d zero (suc j) h l e =
+    true≢false (sym (contained-at xs j (le-of-suc-le-suc l)) ∙ ap (λ (y : ℕ). contains y xs) (sym e)
+    ∙ distinct-head x xs d)
+distinct-places (x ∷ xs) d (suc i) (suc j) h l e =
+    distinct-places xs (distinct-tail x xs d) i j (le-of-suc-le-suc h) (le-of-suc-le-suc l) e
 
 pub distinct-add : (xs : List ℕ) (x : ℕ) → distinct xs ≡ true → contains x xs ≡ false → distinct (xs ++ (x ∷ [])) ≡ true
 unfolding distinct contains indexOf

@@ -39,15 +39,15 @@ use Rattle.model.proofs.RuleLaws.{ValidState, Rules, with-users, rules-
 -- ---- a bit written
 
 -- f writes a value at a place of a row
-record BitWrite (f : ℕ → ℕ → ℕ) (value : ℕ) : Type 0 where
-  there : (row j : ℕ) → j < 32 → bitAt (f row j) j ≡ value
-  elsewhere : (row j m : ℕ) → m ≢ j → bitAt (f row j) m ≡ bitAt row m
-  bound : (n row j : ℕ) → row < 2 ^ n → j < n → f row j < 2 ^ n
+pub record BitWrite (f : ℕ → ℕ → ℕ) (value : ℕ) : Type 0 where
+  pub there : (row j : ℕ) → j < 32 → bitAt (f row j) j ≡ value
+  pub elsewhere : (row j m : ℕ) → m ≢ j → bitAt (f row j) m ≡ bitAt row m
+  pub bound : (n row j : ℕ) → row < 2 ^ n → j < n → f row j < 2 ^ n
 
-set-writes : BitWrite setBit 1
+pub set-writes : BitWrite setBit 1
 set-writes = record { there = bit-set; elsewhere = bit-set-other; bound = set-lt }
 
-clear-writes : BitWrite clearBit 0
+pub clear-writes : BitWrite clearBit 0
 clear-writes = record { there = λ row j h. bit-clear row j; elsewhere = bit-clear-other; bound = λ n row j h l. lt-of-le-of-lt (clear-le row j) h }
 
 -- row i of rows is written at place j

@@ -1,43 +1,32 @@
--- CoSMed's safety properties (source document 001, section 5.1) on every valid state, so on every board that a replay leads to:
+-- CoSMed's safety properties (source document 001, section 5.1) on every valid state: that of any sound board (`valid-board` of
+-- StepTheorems), so each state that a journal leads to from the empty board (`reached-valid` of Invariant):
 --     owner-registered       1. the owner of an existing post is an existing user
 --     friendship-symmetric   2. friendship is symmetric
 --     friends-distinct, requests-distinct   3. the lists of friends and of friend requests contain no duplicates
 -- The fourth, that two with a pending request are not friends, does not hold here: two requests may cross, and accepting one leaves the
 -- other (document 01, 0205; `regressionCases` of CaseTable has the journal).
 use Prim.Native.Nat.{ℕ, zero, suc, _^_, _≤_, _<_}
-use native.Mathlib.Nat.{not-suc-le-zero, le-of-suc-le-suc, le-of-lt, le-refl}
+use native.Mathlib.Nat.{le-of-lt, le-refl}
 use mathlib.Core.Path.{_≡_, refl, sym, ap, _∙_}
 use mathlib.Core.List.{List, [], _∷_, _++_, map, map-append, append-nil}
-use mathlib.Core.Bool.{Bool, true, false, not, cond, _||_, true≢false}
+use mathlib.Core.Bool.{Bool, true, false, not, cond, true≢false}
 use lib.ListN.{length, getD, length-map, List·getD-map}
 use lib.Dec.{eqb, ltb}
 use borrow.Table.Steps.{cases}
-use borrow.Author.Tests.{ltb-true, ltb-false, eq-eqb, not-true}
+use borrow.Author.Tests.{ltb-true, ltb-false}
 use Rattle.bytes.specs.Bytes.{indexOf}
 use Rattle.layout.specs.Bits.{hasBit, setPlaces}
 use Rattle.layout.proofs.BitLaws.{has-beyond}
-use Rattle.layout.proofs.BooleanLaws.{and-left, and-right}
 use Rattle.model.specs.Lists.{contains, distinct}
 use Rattle.model.specs.State.{User, Post, State, userLimit, noUser, noPost, userNumbers, userAt, postAt}
 use Rattle.model.specs.Lookups.{isRegistered, isPost, userSlot, postPlace, userNumbered, postNumbered, areFriends, ownerOf}
 use Rattle.model.specs.Answers.{usersIn}
-use Rattle.model.proofs.ListLaws.{all-at, contains-cons, absent-add, distinct-add}
+use Rattle.model.proofs.ListLaws.{all-at, contained-at, absent-add, distinct-places, distinct-add}
 use Rattle.model.proofs.RuleLaws.{ValidState, Rules, rules-of}
 use Rattle.model.proofs.AcceptedLaws.{post-below}
 use Rattle.model.proofs.Invariant.{all-friends-below, all-requests-below, all-symmetric}
 
 -- ---- 1. owners
-
-contained-at : (xs : List ℕ) (i : ℕ) → i < length xs → contains (getD xs i 0) xs ≡ true
-contained-at [] i h = absurd (not-suc-le-zero h)
-contained-at (x ∷ xs) zero h = contains-cons x x xs ∙ ap (λ (t : Bool). t || contains x xs) (eq-eqb x x refl)
-contained-at (x ∷ xs) (suc i) h =
-    contains-cons (getD xs i 0) x xs ∙ ap (λ (t : Bool). eqb x (getD xs i 0) || t) (contained-at xs i (le-of-suc-le-suc h))
-    ∙ or-true (eqb x (getD xs i 0))
-  where
-    or-true : (a : Bool) → (a || true) ≡ true
-    or-true true = refl
-    or-true false = refl
 
 -- the number of the user in a used slot is registered
 slot-registered : (s : State) (i : ℕ) → i < length (s .users) → isRegistered s (userAt s i .number) ≡ true
@@ -62,17 +51,6 @@ unfolding areFriends userNumbered hasBit
 friendship-symmetric s valid u v = ap (λ (b : ℕ). eqb b 1) (all-symmetric s (rules-of s (valid .keeps)) (userSlot s u) (userSlot s v))
 
 -- ---- 3. lists without duplicates
-
--- the numbers at two places of a list without duplicates differ
-distinct-places : (xs : List ℕ) → distinct xs ≡ true → (i j : ℕ) → i < j → j < length xs → getD xs i 0 ≡ getD xs j 0 → ⊥
-unfolding distinct
-distinct-places [] d i j h l e = absurd (not-suc-le-zero l)
-distinct-places (x ∷ xs) d i zero h l e = absurd (not-suc-le-zero h)
-distinct-places (x ∷ xs) d zero (suc j) h l e =
-    true≢false (sym (contained-at xs j (le-of-suc-le-suc l)) ∙ ap (λ (y : ℕ). contains y xs) (sym e)
-    ∙ not-true (contains x xs) (and-left (not (contains x xs)) (distinct xs) d))
-distinct-places (x ∷ xs) d (suc i) (suc j) h l e =
-    distinct-places xs (and-right (not (contains x xs)) (distinct xs) d) i j (le-of-suc-le-suc h) (le-of-suc-le-suc l) e
 
 module _ (xs : List ℕ) (d : distinct xs ≡ true) (row : ℕ) (b : row < 2 ^ length xs) where
   at-places : ℕ → List ℕ

@@ -6,12 +6,12 @@ use Rattle.layout.specs.Numbers.{toLeBytes, fromLeBytes}
 use Rattle.layout.specs.StringFields.{isString, stringBytes}
 use Rattle.layout.specs.Bits.{bitAt, hasBit, setBit, clearBit, setPlaces}
 use Rattle.reader.specs.Frames.{lengthField, frameLength, isFrame, kindOf, bodyOf, frameBytes}
-use Rattle.reader.specs.Fields.{fieldFits, fieldEnd, fieldValue, fieldsFit, fieldValues}
+use Rattle.reader.specs.Fields.{fieldFits, fieldEnd, fieldValue, fieldsFit, fieldValues, valueNumber, valueString}
 use Rattle.reader.specs.Kinds.{kinds, fieldsIn, kindFields}
 use Rattle.reader.specs.Messages.{bodyContent, messageContent}
 use Rattle.model.specs.Lists.{contains, removeAt}
 use Rattle.model.specs.State.{emptyState, userNumbers, postNumbers, pendingNumbers, userAt, postAt, pendingAt, notesTo, noteAt, isAdmin}
-use Rattle.model.specs.Actions.{valueNumber, valueString, actionNamed, actionFrom, actionOf}
+use Rattle.model.specs.Actions.{actionNamed, actionFrom, actionOf}
 use Rattle.model.specs.Lookups.{isRegistered, isPost, isPending, userSlot, postPlace, pendingPlace, userNumbered, postNumbered, areFriends, hasRequested, noteOfRequest, ownerOf, isOwner, mayRead}
 use Rattle.model.specs.Refusals.{causeNumber, rightOf, lacksRight, afterLogin, postRows, userRows, pendingRows, changeRefusals, queryRefusals, firstCause}
 use Rattle.model.specs.Changes.{addUser, updateUser, updatePost, setNote, addRequest, removeRequest, addFriends, removeFriends, acceptRequest, applyChange}

@@ -1,29 +1,22 @@
 -- What stands at a place of a state that fits, used or not, has room in its record: numbers below their width, strings within their limits.
-use Prim.Native.Nat.{ℕ, zero, suc, _+_, _*_, _^_, _≤_, _<_}
+use Prim.Native.Nat.{ℕ, _+_, _*_, _^_, _≤_, _<_}
 use mathlib.Core.Path.{_≡_, refl, sym, ap, _∙_}
-use mathlib.Core.List.{List, [], _∷_}
-use mathlib.Core.Bool.{Bool, true}
+use mathlib.Core.List.{List, []}
+use mathlib.Core.Bool.{true}
 use lib.ListN.{length, getD}
 use lib.Dec.{lit<}
 use borrow.Author.Tests.{ltb-true}
 use Rattle.layout.specs.StringFields.{isString}
-use Rattle.layout.proofs.BooleanLaws.{and-left, and-right}
 use Rattle.layout.proofs.StringFieldLaws.{string-le}
 use Rattle.model.specs.Lists.{forAll}
 use Rattle.model.specs.State.{User, Post, Pending, State, userLimit, postLimit, pendingLimit, noteCount, noUser, noPost, noPending, userAt, postAt, pendingAt, noteAt}
 use Rattle.model.specs.Board.{StoredField, unsigned, string, filler, userFields, postFields, pendingFields, noteFields}
 use Rattle.model.proofs.StateRules.{storedFits}
-use Rattle.model.proofs.ListLaws.{all-at}
+use Rattle.model.proofs.ListLaws.{all-at, all-default}
 use Rattle.model.proofs.RecordTheorems.{userCodec, postCodec, pendingCodec, noteCodec}
 use Rattle.model.proofs.TableRecordLaws.{fits-records}
 use Rattle.model.proofs.BoardTheorems.{FittingState}
 use Rattle.model.proofs.ReadingLaws.{note-number}
-
-default-passes : {A : Type 0} (p : A → Bool) (d : A) → p d ≡ true → (xs : List A) → forAll p xs ≡ true → (i : ℕ) → p (getD xs i d) ≡ true
-unfolding forAll
-default-passes p d z [] e i = z
-default-passes p d z (x ∷ xs) e zero = and-left (p x) (forAll p xs) e
-default-passes p d z (x ∷ xs) e (suc i) = default-passes p d z xs (and-right (p x) (forAll p xs) e) i
 
 -- the number in field k of a record that fits is below its width, a string there within its limit
 pub number-below : (fields : List StoredField) (k width n : ℕ) → forAll storedFits fields ≡ true → k < length fields
@@ -40,26 +33,26 @@ module _ (s : State) (f : FittingState s) where
   pub user-fits : (i : ℕ) → forAll storedFits (userFields (userAt s i)) ≡ true
   unfolding userAt forAll storedFits userFields isString
   user-fits i =
-      default-passes (λ (u : User). forAll storedFits (userFields u)) noUser refl (s .users)
+      all-default (λ (u : User). forAll storedFits (userFields u)) noUser refl (s .users)
       (fits-records userCodec userLimit (s .users) (f .users)) i
 
   pub post-fits : (i : ℕ) → forAll storedFits (postFields (postAt s i)) ≡ true
   unfolding postAt forAll storedFits postFields isString
   post-fits i =
-      default-passes (λ (p : Post). forAll storedFits (postFields p)) noPost refl (s .posts)
+      all-default (λ (p : Post). forAll storedFits (postFields p)) noPost refl (s .posts)
       (fits-records postCodec postLimit (s .posts) (f .posts)) i
 
   pub pending-fits : (i : ℕ) → forAll storedFits (pendingFields (pendingAt s i)) ≡ true
   unfolding pendingAt forAll storedFits pendingFields isString
   pending-fits i =
-      default-passes (λ (p : Pending). forAll storedFits (pendingFields p)) noPending refl (s .pending)
+      all-default (λ (p : Pending). forAll storedFits (pendingFields p)) noPending refl (s .pending)
       (fits-records pendingCodec pendingLimit (s .pending) (f .pending)) i
 
   pub note-fits : (i j : ℕ) → forAll storedFits (noteFields (noteAt s i j)) ≡ true
   unfolding forAll storedFits noteFields isString
   note-fits i j =
       rw (note-number s i j)
-      (default-passes (λ (note : List ℕ). forAll storedFits (noteFields note)) [] refl (s .notes)
+      (all-default (λ (note : List ℕ). forAll storedFits (noteFields note)) [] refl (s .notes)
       (fits-records noteCodec noteCount (s .notes) (f .notes)) (userLimit * i + j))
 
   pub friends-width : (i : ℕ) → userAt s i .friends < 2 ^ 32

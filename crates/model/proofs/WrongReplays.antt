@@ -3,12 +3,12 @@
 --     skipping-differs      "a replay that applies the first message and merely skips the rest"
 --     miscounting-differs   "one whose message count is not the number of frames passed"
 --     stopping-differs      "one that stops with 2 before the first message, whatever room is left"
-use Prim.Native.Nat.{ℕ, _*_, _≤_, _<_}
+use Prim.Native.Nat.{ℕ, _*_, _<_}
 use native.Mathlib.Omega.{arith}
 use mathlib.Core.Path.{_≡_, refl, sym, ap, _∙_}
 use mathlib.Core.List.{List, [], _++_}
 use mathlib.Core.Bool.{true}
-use lib.ListN.{length, take, replicate, length-replicate}
+use lib.ListN.{length, take, replicate}
 use lib.Dec.{lit<}
 use lib.Pow.{areBytes}
 use Rattle.reader.specs.Frames.{frameLength}
@@ -20,12 +20,11 @@ use Rattle.model.specs.Replay.{framesOf, runOf, ReplayResult, replayOf}
 use Rattle.model.proofs.BoardTheorems.{decode-encode}
 use Rattle.model.proofs.EmptyBoard.{empty-encoded}
 use Rattle.model.proofs.SoundnessTheorems.{empty-sound}
-use Rattle.model.proofs.RuleLaws.{ValidState}
-use Rattle.model.proofs.Invariant.{step-valid}
+use Rattle.model.proofs.Invariant.{empty-valid, step-valid, reached-valid}
 use Rattle.model.proofs.StepDefinitions.{stepDefinitions}
-use Rattle.model.proofs.RunLaws.{lastState, run-keeps}
+use Rattle.model.proofs.JournalLaws.{lastState}
 use Rattle.model.proofs.CaseTable.{login, registrationRequest}
-use Rattle.model.proofs.CaseTheorems.{empty-valid}
+use Rattle.model.proofs.CaseTheorems.{zeros-long}
 use Rattle.model.proofs.StepTheorems.{step-valid-board}
 use Rattle.model.proofs.ReplayTheorems.{replay-complete, room-enough, messages-counted}
 
@@ -40,16 +39,13 @@ startedAsked = login 0x0101 7 1 ++ registrationRequest 8 []
 abbrev pub roomyBuffer : List ℕ
 roomyBuffer = replicate (answerLimit * 3) 0
 
-roomy : answerLimit * 3 ≤ length roomyBuffer
-roomy = omega (arith, length-replicate {A = ℕ} (answerLimit * 3) 0)
-
 started-lengths : (0 < length startedAsked) × (length (framesOf startedAsked) ≡ 2)
 unfolding startedAsked stepDefinitions
 started-lengths = (lit< tt, refl)
 
 -- both messages have room
 started-room : replayOf startedAsked (encode emptyState) roomyBuffer .stop ≡ 2 → ⊥
-started-room = room-enough startedAsked emptyState roomyBuffer empty-valid (omega (arith, started-lengths .1, roomy))
+started-room = room-enough startedAsked emptyState roomyBuffer empty-valid (omega (arith, started-lengths .1, zeros-long (answerLimit * 3)))
 
 -- ---- the first message alone
 
@@ -70,22 +66,20 @@ started-pending = (refl, refl)
 -- so the boards differ
 first-board : stepOf firstMessage (encode emptyState) roomyBuffer .board ≡ encode stateOfFirst
 unfolding stateOfFirst
-first-board = ap (λ (r : StepResult). r .board) (step-valid-board firstMessage emptyState roomyBuffer empty-valid (omega (arith, roomy)))
+first-board =
+    ap (λ (r : StepResult). r .board)
+    (step-valid-board firstMessage emptyState roomyBuffer empty-valid (omega (arith, zeros-long (answerLimit * 3))))
 
 both-board : replayOf startedAsked (encode emptyState) roomyBuffer .board ≡ encode stateOfBoth
 unfolding stateOfBoth
 both-board = ap (λ (r : ReplayResult). r .board) (replay-complete startedAsked emptyState roomyBuffer empty-valid started-room)
 
-both-valid : ValidState stateOfBoth
-unfolding stateOfBoth runOf
-both-valid = run-keeps stepState ValidState step-valid emptyState (framesOf startedAsked) empty-valid
-
 boards-differ : encode stateOfFirst ≡ encode stateOfBoth → ⊥
-unfolding stateOfFirst
+unfolding stateOfFirst stateOfBoth
 boards-differ e =
     let states : stateOfFirst ≡ stateOfBoth =
     sym (decode-encode stateOfFirst (step-valid firstMessage emptyState empty-valid .fits)) ∙ ap decode e
-    ∙ decode-encode stateOfBoth (both-valid .fits)
+    ∙ decode-encode stateOfBoth (reached-valid startedAsked .fits)
     in
     omega (arith, started-pending .0, started-pending .1, ap (λ (s : State). length (s .pending)) states)
 

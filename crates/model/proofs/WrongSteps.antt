@@ -17,11 +17,11 @@ use Rattle.model.specs.Step.{answerLimit, Response, StepResult, stepStat
 use Rattle.model.proofs.BoardTheorems.{decode-encode}
 use Rattle.model.proofs.EmptyBoard.{empty-encoded}
 use Rattle.model.proofs.SoundnessTheorems.{empty-sound}
-use Rattle.model.proofs.Invariant.{step-valid}
+use Rattle.model.proofs.Invariant.{empty-valid, step-valid}
 use Rattle.model.proofs.StepTheorems.{encodedResult, step-valid-board}
 use Rattle.model.proofs.StepDefinitions.{stepDefinitions}
 use Rattle.model.proofs.CaseTable.{login}
-use Rattle.model.proofs.CaseTheorems.{zeroBuffer, zero-buffer-long, empty-valid, responseOf, boardStep, board-step}
+use Rattle.model.proofs.CaseTheorems.{zeroBuffer, zeros-long, responseOf, boardStep, board-step}
 
 -- what kernels do with a message, a board and a buffer
 abbrev pub StepFunction : Type 0
@@ -29,7 +29,7 @@ StepFunction = List ℕ → List ℕ → List ℕ → StepResult
 
 step-empty : (msg : List ℕ) → stepOf msg emptyBoard zeroBuffer ≡ encodedResult (stepState msg emptyState) zeroBuffer
 step-empty msg =
-    ap (λ (b : List ℕ). stepOf msg b zeroBuffer) (sym empty-encoded) ∙ step-valid-board msg emptyState zeroBuffer empty-valid zero-buffer-long
+    ap (λ (b : List ℕ). stepOf msg b zeroBuffer) (sym empty-encoded) ∙ step-valid-board msg emptyState zeroBuffer empty-valid (zeros-long answerLimit)
 
 answer-empty : (msg : List ℕ) → responseOf (stepOf msg emptyBoard zeroBuffer) .answer ≡ stepState msg emptyState .answer
 unfolding boardStep
@@ -65,7 +65,7 @@ module _ (step : StepFunction) where
   pub refusing-differs : ((msg b o : List ℕ) → isSound b ≡ true → answerLimit ≤ length o → step msg b o .number ≡ 7)
       → step starting emptyBoard zeroBuffer ≡ stepOf starting emptyBoard zeroBuffer → ⊥
   refusing-differs sevens same =
-      let seven : step starting emptyBoard zeroBuffer .number ≡ 7 = sevens starting emptyBoard zeroBuffer empty-sound zero-buffer-long in
+      let seven : step starting emptyBoard zeroBuffer .number ≡ 7 = sevens starting emptyBoard zeroBuffer empty-sound (zeros-long answerLimit) in
       let number = ap (λ (r : StepResult). r .number) (same ∙ step-empty starting) in
       omega (arith, seven, starting-number, number)
 
@@ -73,7 +73,7 @@ module _ (step : StepFunction) where
       → step listingUsers emptyBoard zeroBuffer ≡ stepOf listingUsers emptyBoard zeroBuffer → ⊥
   accepting-differs accepts same =
       let frames : frameBytes 0 [] ≡ stepState listingUsers emptyState .answer =
-      sym (accepts listingUsers emptyBoard zeroBuffer empty-sound zero-buffer-long) ∙ ap (λ (r : StepResult). responseOf r .answer) same
+      sym (accepts listingUsers emptyBoard zeroBuffer empty-sound (zeros-long answerLimit)) ∙ ap (λ (r : StepResult). responseOf r .answer) same
       ∙ answer-empty listingUsers
       in
       omega (arith, accepting-kind, listing-kind, ap (λ (f : List ℕ). getD f 2 0) frames)

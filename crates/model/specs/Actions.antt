@@ -4,7 +4,7 @@ use mathlib.Core.List.{List, [], _∷_}
 use mathlib.Core.Bool.{cond}
 use lib.ListN.{getD}
 use lib.Dec.{eqb}
-use Rattle.reader.specs.Fields.{FieldValue, numberValue, stringValue, outOfBody}
+use Rattle.reader.specs.Fields.{FieldValue, outOfBody, valueNumber, valueString}
 use Rattle.reader.specs.Kinds
 use Rattle.reader.specs.Kinds.{ActionName, KindEntry, kinds}
 use Rattle.reader.specs.Messages.{Content, messageContent, refusalNumber}
@@ -54,16 +54,6 @@ pub data Action : Type 0 where
   refused : Refusal → Action
 
 -- ---- from the values of a message's fields
-
-unfoldable pub valueNumber : FieldValue → ℕ
-valueNumber (numberValue n) = n
-valueNumber (stringValue place x) = 0
-valueNumber outOfBody = 0
-
-unfoldable pub valueString : FieldValue → List ℕ
-valueString (numberValue n) = []
-valueString (stringValue place x) = x
-valueString outOfBody = []
 
 -- the number and the string that the fields of a message have at place i
 abbrev pub numberArg : List FieldValue → ℕ → ℕ

@@ -10,7 +10,7 @@ use lib.ListN.{length, getD}
 use lib.Dec.{eqb}
 use Rattle.layout.proofs.ByteLaws.{length-bytesAt}
 use Rattle.reader.specs.Frames.{bodyOf}
-use Rattle.reader.specs.Fields.{FieldValue, numberValue, stringValue, outOfBody}
+use Rattle.reader.specs.Fields.{FieldValue, numberValue, stringValue, outOfBody, valueNumber}
 use Rattle.reader.specs.Kinds.{KindEntry, ActionName, startSys, cNUReq, cUser, cPost, cFriendReq, cFriend, dFriend, uUser, uTitlePost, uTextPost, uImgPost, uVisPost, rUser, rNUReq, rAmIAdmin, rTitlePost, rTextPost, rImgPost, rVisPost, rOwnerPost, rFriendReqToMe, rFriendReqFromMe, lPendingUReqs, lAllUsers, lAllPosts, lFriendReqs, lFriends, lFriendsOf, kinds}
 use Rattle.reader.specs.Messages.{Content, messageContent, spanValue, enumContent}
 use Rattle.reader.specs.Spans.{SpanWithin, SpansWithin}
@@ -93,11 +93,6 @@ names-agree body (Refused Kind) = refl
 names-agree body (Refused Body) = refl
 
 -- ---- the message of a content
-
-valueNumber : FieldValue → ℕ
-valueNumber (numberValue n) = n
-valueNumber (stringValue place x) = 0
-valueNumber outOfBody = 0
 
 valueSpan : FieldValue → Span
 valueSpan (numberValue n) = record { start = 0; len = 0 }

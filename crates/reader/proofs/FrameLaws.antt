@@ -7,7 +7,7 @@ use mathlib.Core.Path.{_≡_, refl, sym, ap, ap₂, _∙_}
 use mathlib.Core.List.{List, _++_}
 use mathlib.Core.Bool.{Bool, true, false, _&&_, not, cond, and-false}
 use lib.ListN.{length, take, drop, length-append, length-drop}
-use lib.Seq.{length-take-le, take-at, drop-at, drop-drop}
+use lib.Seq.{length-take-le, take-at, take-append-le, drop-at, drop-drop}
 use lib.Dec.{eqb, leb, lit≤}
 use lib.Pow.{areBytes}
 use borrow.Table.Steps.{cases}
@@ -180,3 +180,29 @@ frame-again msg y t =
     (to-from 2 (bytesAt msg 0 2) (bytes-bytesAt msg 0 2 y) (length-bytesAt msg 0 2 (omega arith)))
     (to-from 2 (bytesAt msg 2 2) (bytes-bytesAt msg 2 2 y) (length-bytesAt msg 2 2 (omega arith)))
     ∙ ap (λ (x : List ℕ). bytesAt msg 0 2 ++ x) (sym (drop-split msg 2 2)) ∙ sym (drop-split msg 0 2)
+
+-- ---- a message that is one whole frame
+
+module _ (m : List ℕ) (e : isFrame m ≡ true) where
+  pub frame-whole : frameLength m ≡ length m
+  unfolding isFrame
+  frame-whole = eqb-true (frameLength m) (length m) (and-right (not (eqb (frameLength m) 0)) (eqb (frameLength m) (length m)) e)
+
+  pub frame-there : frameLength m ≡ 0 → ⊥
+  unfolding isFrame
+  frame-there =
+      eqb-false (frameLength m) 0
+      (not-true (eqb (frameLength m) 0) (and-left (not (eqb (frameLength m) 0)) (eqb (frameLength m) (length m)) e))
+
+  -- a frame keeps its length with bytes behind it
+  pub frame-in-front : (rest : List ℕ) → frameLength (m ++ rest) ≡ length m
+  unfolding lengthField bytesAt
+  frame-in-front rest =
+      let at = frame-at m frame-there in
+      let four = frame-least m frame-there in
+      let inside = frame-inside m in
+      let l = length-append m rest in
+      let field : lengthField (m ++ rest) ≡ lengthField m = ap fromLeBytes (take-append-le 2 m rest (omega arith)) in
+      frame-length (m ++ rest) (omega arith) (omega (arith, field, at .least)) (omega (arith, field, at .greatest))
+      (omega (arith, field, at .inside))
+      ∙ ap (λ (k : ℕ). k + 2) field ∙ sym (at .stated) ∙ frame-whole

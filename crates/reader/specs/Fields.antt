@@ -94,6 +94,17 @@ unfoldable pub fieldValue : FieldType → List ℕ → ℕ → FieldValue
 fieldValue (uint width least greatest) s at = numberValue (numberIn s at width)
 fieldValue (string limit) s at = stringValue (at + 2) (stringIn s at)
 
+-- its number and the bytes of its string; 0 and none where it is of the other sort
+unfoldable pub valueNumber : FieldValue → ℕ
+valueNumber (numberValue n) = n
+valueNumber (stringValue place x) = 0
+valueNumber outOfBody = 0
+
+unfoldable pub valueString : FieldValue → List ℕ
+valueString (numberValue n) = []
+valueString (stringValue place x) = x
+valueString outOfBody = []
+
 -- ---- the fields of a list, one behind the other from a place on
 
 -- they fit, and s ends with the last one

@@ -12,18 +12,16 @@ use native.Mathlib.Nat.{mul-suc}
 use native.Mathlib.Omega.{arith}
 use mathlib.Core.Path.{_≡_, refl, sym, ap, ap₂, _∙_}
 use mathlib.Core.List.{List, [], _∷_, _++_, map, flatten, append-assoc}
-use mathlib.Core.Bool.{Bool, true, not, cond}
+use mathlib.Core.Bool.{Bool, true, cond}
 use lib.ListN.{length, take, drop, length-append, length-drop, take-append-drop}
-use lib.Seq.{length-take-le, take-nil, take-at, take-append-le, drop-at, drop-drop}
+use lib.Seq.{length-take-le, take-nil, take-at, drop-at, drop-drop}
 use lib.Dec.{eqb}
-use borrow.Author.Tests.{not-true, eqb-true, eqb-false, eq-eqb, ne-eqb}
+use borrow.Author.Tests.{eqb-true, eqb-false, eq-eqb, ne-eqb}
 use borrow.Table.Steps.{cases}
 use Rattle.layout.proofs.BooleanLaws.{and-left, and-right, and-both}
-use Rattle.layout.specs.Bytes.{bytesAt}
-use Rattle.layout.specs.Numbers.{fromLeBytes}
 use Rattle.layout.proofs.ConcatenationLaws.{flatten-append}
-use Rattle.reader.specs.Frames.{lengthField, frameLength, isFrame}
-use Rattle.reader.proofs.FrameLaws.{frame-length, frame-at, frame-least, frame-inside, first-is-frame}
+use Rattle.reader.specs.Frames.{frameLength, isFrame}
+use Rattle.reader.proofs.FrameLaws.{frame-least, frame-inside, first-is-frame, frame-whole, frame-there, frame-in-front}
 use Rattle.model.specs.Lists.{forAll}
 use Rattle.model.specs.Step.{Response}
 use Rattle.model.proofs.ListLaws.{all-take}
@@ -95,30 +93,6 @@ all-frames =
     (λ j n f. ap (forAll isFrame) (frames-more j n) ∙ and-both (first-is-frame j n) f)
 
 -- ---- frames one behind the other
-
-module _ (m : List ℕ) (e : isFrame m ≡ true) where
-  frame-whole : frameLength m ≡ length m
-  unfolding isFrame
-  frame-whole = eqb-true (frameLength m) (length m) (and-right (not (eqb (frameLength m) 0)) (eqb (frameLength m) (length m)) e)
-
-  frame-there : frameLength m ≡ 0 → ⊥
-  unfolding isFrame
-  frame-there =
-      eqb-false (frameLength m) 0
-      (not-true (eqb (frameLength m) 0) (and-left (not (eqb (frameLength m) 0)) (eqb (frameLength m) (length m)) e))
-
-  -- a frame keeps its length with bytes behind it
-  frame-in-front : (rest : List ℕ) → frameLength (m ++ rest) ≡ length m
-  unfolding lengthField bytesAt
-  frame-in-front rest =
-      let at = frame-at m frame-there in
-      let four = frame-least m frame-there in
-      let inside = frame-inside m in
-      let l = length-append m rest in
-      let field : lengthField (m ++ rest) ≡ lengthField m = ap fromLeBytes (take-append-le 2 m rest (omega arith)) in
-      frame-length (m ++ rest) (omega arith) (omega (arith, field, at .least)) (omega (arith, field, at .greatest))
-      (omega (arith, field, at .inside))
-      ∙ ap (λ (k : ℕ). k + 2) field ∙ sym (at .stated) ∙ frame-whole
 
 pub frames-flatten : (ms : List (List ℕ)) → forAll isFrame ms ≡ true → framesOf (flatten ms) ≡ ms
 unfolding flatten forAll
