@@ -19,7 +19,7 @@ use Rattle.model.proofs.StepDefinitions.{stepDefinitions}
 
 -- ---- what a row expects
 
--- a journal is the list of its messages, which startJournal on the empty board
+-- a journal is the list of its messages, which starts on the empty board
 pub data Expectation : Type 0 where
   -- after the journal the message gets the number and the answer, a whole frame
   answerIs : (journal : List (List ℕ)) (message : List ℕ) (number : ℕ) (answer : List ℕ) → Expectation
@@ -99,7 +99,7 @@ numbersFrom first (suc n) = first ∷ numbersFrom (suc first) n
 abbrev pub startJournal : List (List ℕ)
 startJournal = login 0x0101 7 1 ∷ []
 
--- .. and registration 9 with password 3, then 8 with password 2
+-- .. and registers 9 with password 3, then 8 with password 2
 abbrev staff : List (List ℕ)
 staff = startJournal ++ (registrationRequest 9 [] ∷ registration 7 1 9 3 ∷ registrationRequest 8 [] ∷ registration 7 1 8 2 ∷ [])
 
@@ -172,7 +172,7 @@ lettered-computed = refl
 
 -- ---- "What a marker has caught before", the order of the refusals, and readings that are easily missed
 
--- 103 of the sixteen is registered, and 117 registrationRequest
+-- 103 of the sixteen is registered, and 117 asks
 abbrev pendingAgain : List (List ℕ)
 pendingAgain = fullPending ++ (registration 7 1 103 5 ∷ registrationRequest 117 [] ∷ [])
 
@@ -184,7 +184,7 @@ requestedAgain = unfriended ++ (targetString 0x0204 8 2 9 (99 ∷ []) ∷ [])
 abbrev crossedRequests : List (List ℕ)
 crossedRequests = staff ++ (targetString 0x0204 8 2 9 (97 ∷ []) ∷ targetString 0x0204 9 3 8 (98 ∷ []) ∷ target 0x0205 9 3 8 ∷ [])
 
--- all 32 users, and 101 registrationRequest
+-- all 32 users, and 101 asks
 abbrev fullUsersAsked : List (List ℕ)
 fullUsersAsked = fullUsers ++ (registrationRequest 101 [] ∷ [])
 
