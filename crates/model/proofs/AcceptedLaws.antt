@@ -6,14 +6,15 @@ use mathlib.Core.List.{List, [], _∷_, map}
 use mathlib.Core.Bool.{Bool, true, false, cond}
 use mathlib.Core.Option.{some, none, Option·some-ne-none}
 use lib.ListN.{length, getD, length-map, List·getD-map}
-use borrow.Author.Tests.{ltb-true}
+use lib.Dec.{eqb}
+use borrow.Author.Tests.{ltb-true, eqb-true, eqb-false, eq-eqb, ne-eqb}
 use Rattle.bytes.specs.Bytes.{indexOf}
-use Rattle.layout.proofs.TableLaws.{index-found}
 use Rattle.model.specs.Lists.{contains}
 use Rattle.model.specs.State.{User, Post, Pending, State, noUser, userNumbers, postNumbers, pendingNumbers, userAt}
 use Rattle.model.specs.Lookups.{isRegistered, isPost, isPending, userSlot, postPlace, pendingPlace, userNumbered}
 use Rattle.model.specs.Actions.{unsoundBoard}
 use Rattle.model.specs.Refusals.{RefusalRow, firstCause}
+use Rattle.model.proofs.ListLaws.{contained-found, index-injective}
 
 -- ---- rows
 
@@ -53,12 +54,19 @@ module _ (s : State) (x : ℕ) where
 
   -- the user at a number's slot has that number
   pub slot-number : isRegistered s x ≡ true → userNumbered s x .number ≡ x
-  unfolding isRegistered userSlot userNumbers userNumbered userAt contains
-  slot-number e =
-      let ns : List ℕ = map (λ (u : User). u .number) (s .users) in
-      sym (List·getD-map (λ (u : User). u .number) (s .users) (indexOf x ns) noUser) ∙ index-found x ns (ltb-true (indexOf x ns) (length ns) e)
+  unfolding isRegistered userSlot userNumbers userNumbered userAt
+  slot-number e = sym (List·getD-map (λ (u : User). u .number) (s .users) (userSlot s x) noUser) ∙ contained-found x (userNumbers s) e
 
 -- numbers with the same slot are the same
 pub slot-injective : (s : State) (u v : ℕ) → isRegistered s u ≡ true → isRegistered s v ≡ true → userSlot s u ≡ userSlot s v → u ≡ v
 unfolding userNumbered
 slot-injective s u v e f q = sym (slot-number s u e) ∙ ap (λ (i : ℕ). userAt s i .number) q ∙ slot-number s v f
+
+-- so the slots say whether the numbers are the same, if one of them is registered
+pub slot-test : (s : State) (u v : ℕ) → isRegistered s u ≡ true → eqb (userSlot s v) (userSlot s u) ≡ eqb u v
+unfolding isRegistered userSlot
+slot-test s u v e = by-test (eqb u v) refl
+  where
+    by-test : (t : Bool) → eqb u v ≡ t → eqb (userSlot s v) (userSlot s u) ≡ t
+    by-test true q = eq-eqb (userSlot s v) (userSlot s u) (ap (userSlot s) (sym (eqb-true u v q)))
+    by-test false q = ne-eqb (userSlot s v) (userSlot s u) (λ h. eqb-false u v q (index-injective u v (userNumbers s) e (sym h)))

@@ -9,7 +9,7 @@ use lib.Seq.{take-at, drop-at, drop-drop}
 use Rattle.layout.specs.Bytes.{patch}
 
 module _ (o x : List ℕ) where
-  patch-start : patch o 0 x ≡ x ++ drop (length x) o
+  pub patch-start : patch o 0 x ≡ x ++ drop (length x) o
   unfolding patch
   patch-start = ap (λ (k : ℕ). x ++ drop k o) (zero-add (length x))
 

@@ -64,7 +64,7 @@ abbrev pub login : ℕ → ℕ → ℕ → List ℕ
 login kind u p = message kind (toLeBytes 4 u ∷ toLeBytes 8 p ∷ [])
 
 -- U P and a staff or post number: 0205, 0301, 0501, 0502, 0504 to 050A, 0606
-abbrev target : ℕ → ℕ → ℕ → ℕ → List ℕ
+abbrev pub target : ℕ → ℕ → ℕ → ℕ → List ℕ
 target kind u p x = message kind (toLeBytes 4 u ∷ toLeBytes 8 p ∷ toLeBytes 4 x ∷ [])
 
 -- .. and a string: 0203, 0204, 0402, 0403
@@ -75,7 +75,7 @@ targetString kind u p x s = message kind (toLeBytes 4 u ∷ toLeBytes 8 p ∷ to
 abbrev pub registrationRequest : ℕ → List ℕ → List ℕ
 registrationRequest u note = message 0x0201 (toLeBytes 4 u ∷ stringBytes note ∷ [])
 
-abbrev registration : ℕ → ℕ → ℕ → ℕ → List ℕ
+abbrev pub registration : ℕ → ℕ → ℕ → ℕ → List ℕ
 registration u p v p2 = message 0x0202 (toLeBytes 4 u ∷ toLeBytes 8 p ∷ toLeBytes 4 v ∷ toLeBytes 8 p2 ∷ [])
 
 -- 0401 U P P2 name info
@@ -86,7 +86,7 @@ userUpdate u p p2 name info = message 0x0401 (toLeBytes 4 u ∷ toLeBytes 8 p �
 abbrev pictureUpdate : ℕ → ℕ → ℕ → ℕ → List ℕ
 pictureUpdate u p n picture = message 0x0404 (toLeBytes 4 u ∷ toLeBytes 8 p ∷ toLeBytes 4 n ∷ toLeBytes 4 picture ∷ [])
 
-abbrev visibilityUpdate : ℕ → ℕ → ℕ → ℕ → List ℕ
+abbrev pub visibilityUpdate : ℕ → ℕ → ℕ → ℕ → List ℕ
 visibilityUpdate u p n visibility = message 0x0405 (toLeBytes 4 u ∷ toLeBytes 8 p ∷ toLeBytes 4 n ∷ toLeBytes 1 visibility ∷ [])
 
 -- ---- journals

@@ -5,13 +5,13 @@
 --     all-frames                each of the frames is one whole frame
 --     frames-before             the bytes of the first k frames have just these frames
 --     frames-behind, unread-behind     from behind its first k frames on, a journal has the remaining frames and the same unread rest
---     frames-flatten            frames one behind the other are the frames of their concatenation
+--     frames-in-front, frames-flatten  frames one behind the other, with bytes behind them that begin none or without, are the frames found
 --     run-take, run-drop        the run of a list of frames, cut in two
 use Prim.Native.Nat.{ℕ, zero, suc, _+_, _*_, _≤_}
 use native.Mathlib.Nat.{mul-suc}
 use native.Mathlib.Omega.{arith}
 use mathlib.Core.Path.{_≡_, refl, sym, ap, ap₂, _∙_}
-use mathlib.Core.List.{List, [], _∷_, _++_, map, flatten, append-assoc}
+use mathlib.Core.List.{List, [], _∷_, _++_, map, flatten, append-assoc, append-nil}
 use mathlib.Core.Bool.{Bool, true, cond}
 use lib.ListN.{length, take, drop, length-append, length-drop, take-append-drop}
 use lib.Seq.{length-take-le, take-nil, take-at, drop-at, drop-drop}
@@ -25,7 +25,7 @@ use Rattle.reader.proofs.FrameLaws.{frame-least, frame-inside, first-is-frame, 
 use Rattle.model.specs.Lists.{forAll}
 use Rattle.model.specs.Step.{Response}
 use Rattle.model.proofs.ListLaws.{all-take}
-use Rattle.model.specs.Replay.{framesIn, framesOf, Exchange, runFrames, runOf}
+use Rattle.model.specs.Replay.{framesIn, framesOf, unread, Exchange, runFrames, runOf}
 
 -- ---- the frames of a journal
 
@@ -94,22 +94,26 @@ all-frames =
 
 -- ---- frames one behind the other
 
-pub frames-flatten : (ms : List (List ℕ)) → forAll isFrame ms ≡ true → framesOf (flatten ms) ≡ ms
+-- frames with bytes behind them that begin none
+pub frames-in-front : (ms : List (List ℕ)) (r : List ℕ) → forAll isFrame ms ≡ true → frameLength r ≡ 0 → framesOf (flatten ms ++ r) ≡ ms
 unfolding flatten forAll
-frames-flatten [] e = frames-none [] (let w = frame-inside [] in omega arith)
-frames-flatten (m ∷ ms) e =
-    let f = and-left (isFrame m) (forAll isFrame ms) e in
-    let size = frame-in-front m f (flatten ms) in
-    frames-more (m ++ flatten ms) (λ z. frame-there m f (frame-whole m f ∙ sym size ∙ z))
+frames-in-front [] r f z = frames-none r z
+frames-in-front (m ∷ ms) r f z =
+    let later : List ℕ = flatten ms ++ r in
+    let whole : isFrame m ≡ true = and-left (isFrame m) (forAll isFrame ms) f in
+    let size : frameLength (m ++ later) ≡ length m = frame-in-front m whole later in
+    ap framesOf (append-assoc m (flatten ms) r)
+    ∙ frames-more (m ++ later) (λ n. frame-there m whole (frame-whole m whole ∙ sym size ∙ n))
     ∙ ap₂ (λ (first : List ℕ) (more : List (List ℕ)). first ∷ more)
-    (ap (λ (k : ℕ). take k (m ++ flatten ms)) size ∙ take-at m (flatten ms) (length m) refl)
-    (ap (λ (k : ℕ). framesOf (drop k (m ++ flatten ms))) size ∙ ap framesOf (drop-at m (flatten ms) (length m) refl)
-    ∙ frames-flatten ms (and-right (isFrame m) (forAll isFrame ms) e))
+    (ap (λ (k : ℕ). take k (m ++ later)) size ∙ take-at m later (length m) refl)
+    (ap (λ (k : ℕ). framesOf (drop k (m ++ later))) size ∙ ap framesOf (drop-at m later (length m) refl)
+    ∙ frames-in-front ms r (and-right (isFrame m) (forAll isFrame ms) f) z)
+
+pub frames-flatten : (ms : List (List ℕ)) → forAll isFrame ms ≡ true → framesOf (flatten ms) ≡ ms
+unfolding frameLength
+frames-flatten ms e = ap framesOf (sym (append-nil (flatten ms))) ∙ frames-in-front ms [] e refl
 
 -- ---- what is left behind the frames
-
-unfoldable pub unread : List ℕ → List ℕ
-unread j = drop (length (flatten (framesOf j))) j
 
 pub unread-none : (j : List ℕ) → frameLength j ≡ 0 → unread j ≡ j
 unfolding unread flatten
@@ -143,6 +147,12 @@ frames-unread =
 pub unread-no-frame : (j : List ℕ) → frameLength (unread j) ≡ 0
 unread-no-frame =
     by-frames (λ j. frameLength (unread j) ≡ 0) (λ j e. ap frameLength (unread-none j e) ∙ e) (λ j n f. ap frameLength (unread-more j n) ∙ f)
+
+pub unread-behind-frames : (ms : List (List ℕ)) (r : List ℕ) → forAll isFrame ms ≡ true → frameLength r ≡ 0 → unread (flatten ms ++ r) ≡ r
+unfolding unread
+unread-behind-frames ms r f z =
+    ap (λ (fs : List (List ℕ)). drop (length (flatten fs)) (flatten ms ++ r)) (frames-in-front ms r f z)
+    ∙ drop-at (flatten ms) r (length (flatten ms)) refl
 
 -- ---- from behind the first k frames on
 

@@ -1,17 +1,18 @@
--- Laws of the tests over lists, of the numbers that a list contains and of `map` beside `set` and `drop` (beside `take` it is in layout).
-use Prim.Native.Nat.{ℕ, zero, suc, _-_, _≤_, _<_}
+-- Laws of the tests over lists, of the numbers that a list contains and their places, and of `map` beside `set` and `drop` (beside `take` it
+-- is in layout).
+use Prim.Native.Nat.{ℕ, zero, suc, _-_, _≤_, _<_, zero-le}
 use native.Mathlib.Nat.{not-suc-le-zero, le-of-suc-le-suc, zero-lt-suc, eq-or-lt-of-le, sub-zero}
 use native.Mathlib.Omega.{arith}
 use mathlib.Core.Path.{_≡_, refl, sym, ap, ap₂, _∙_}
 use mathlib.Core.Logic.{_⊎_, inl, inr}
 use mathlib.Core.List.{List, [], _∷_, _++_, map, map-append}
-use mathlib.Core.Bool.{Bool, true, false, not, _&&_, _||_, and-assoc, or-assoc, true≢false, or-true}
+use mathlib.Core.Bool.{Bool, true, false, not, _&&_, _||_, and-assoc, and-false, or-assoc, true≢false, or-true}
 use lib.ListN.{length, take, drop, getD, set, replicate, List·getD-map}
 use lib.Seq.{map-set-same}
 use lib.Dec.{eqb, ltb, leb·zero, leb·suc-suc}
 use borrow.Author.Tests.{ltb-true, eqb-true, eqb-false, ne-eqb, not-true, eq-eqb}
 use Rattle.bytes.specs.Bytes.{indexOf, indexAfter}
-use Rattle.layout.proofs.BooleanLaws.{and-left, and-right, and-both}
+use Rattle.layout.proofs.BooleanLaws.{and-left, and-right, and-both, or-neither}
 use Rattle.layout.proofs.TableLaws.{map-take, index-found}
 use Rattle.model.specs.Lists.{forAll, allTrue, allBelow, contains, distinct, removeAt}
 
@@ -80,12 +81,19 @@ unfolding forAll
 all-weaken p q f [] e = refl
 all-weaken p q f (x ∷ xs) e = and-both (f x (and-left (p x) (forAll p xs) e)) (all-weaken p q f xs (and-right (p x) (forAll p xs) e))
 
-pub all-and : {A : Type 0} (p q : A → Bool) (xs : List A) → forAll p xs ≡ true → forAll q xs ≡ true → forAll (λ (x : A). p x && q x) xs ≡ true
+-- two tests are one
+pub all-both : {A : Type 0} (p q : A → Bool) (xs : List A) → (forAll p xs && forAll q xs) ≡ forAll (λ (x : A). p x && q x) xs
 unfolding forAll
-all-and p q [] e f = refl
-all-and p q (x ∷ xs) e f =
-    and-both (and-both (and-left (p x) (forAll p xs) e) (and-left (q x) (forAll q xs) f))
-    (all-and p q xs (and-right (p x) (forAll p xs) e) (and-right (q x) (forAll q xs) f))
+all-both p q [] = refl
+all-both p q (x ∷ xs) = regroup (p x) (q x) ∙ ap (λ (t : Bool). p x && q x && t) (all-both p q xs)
+  where
+    regroup : (a b : Bool) → (a && forAll p xs && (b && forAll q xs)) ≡ (a && b && (forAll p xs && forAll q xs))
+    regroup true true = refl
+    regroup true false = and-false (forAll p xs)
+    regroup false b = refl
+
+pub all-and : {A : Type 0} (p q : A → Bool) (xs : List A) → forAll p xs ≡ true → forAll q xs ≡ true → forAll (λ (x : A). p x && q x) xs ≡ true
+all-and p q xs e f = sym (all-both p q xs) ∙ and-both e f
 
 -- ---- every number below n passes
 
@@ -171,21 +179,48 @@ contains-append x (y ∷ xs) ys =
     contains-cons x y (xs ++ ys) ∙ ap (λ (t : Bool). eqb y x || t) (contains-append x xs ys)
     ∙ sym (or-assoc (eqb y x) (contains x xs) (contains x ys)) ∙ ap (λ (t : Bool). t || contains x ys) (sym (contains-cons x y xs))
 
+-- a contained number stands at its place, and no other number has that place
+pub contained-found : (x : ℕ) (xs : List ℕ) → contains x xs ≡ true → getD xs (indexOf x xs) 0 ≡ x
+unfolding contains
+contained-found x xs c = index-found x xs (ltb-true (indexOf x xs) (length xs) c)
+
+pub index-injective : (x y : ℕ) (xs : List ℕ) → contains x xs ≡ true → indexOf x xs ≡ indexOf y xs → x ≡ y
+unfolding contains
+index-injective x y xs c e =
+    sym (contained-found x xs c) ∙ ap (λ (i : ℕ). getD xs i 0) e
+    ∙ contained-found y xs (ap (λ (i : ℕ). ltb i (length xs)) (sym e) ∙ c)
+
 -- what all elements pass, a contained number passes
 pub all-contained : (p : ℕ → Bool) (xs : List ℕ) (x : ℕ) → forAll p xs ≡ true → contains x xs ≡ true → p x ≡ true
 unfolding contains
 all-contained p xs x e c =
-    let h : indexOf x xs < length xs = ltb-true (indexOf x xs) (length xs) c in
-    ap p (sym (index-found x xs h)) ∙ all-at p xs (indexOf x xs) 0 e h
+    ap p (sym (contained-found x xs c)) ∙ all-at p xs (indexOf x xs) 0 e (ltb-true (indexOf x xs) (length xs) c)
+
+-- the same place, or two behind the first n
+abbrev pub SamePlace : ℕ → ℕ → ℕ → Type 0
+SamePlace n i k = (i ≡ k) ⊎ ((n ≤ i) × (n ≤ k))
+
+-- numbers added at the end: a place in the list stays, one behind it is behind it still
+pub place-added : (x : ℕ) (xs ys : List ℕ) → SamePlace (length xs) (indexOf x (xs ++ ys)) (indexOf x xs)
+unfolding indexOf indexAfter
+place-added x [] ys = inr (zero-le, zero-le)
+place-added x (y ∷ xs) ys = by-test (eqb y x) (place-added x xs ys)
+  where
+    by-test : (t : Bool) → SamePlace (length xs) (indexOf x (xs ++ ys)) (indexOf x xs)
+        → SamePlace (suc (length xs)) (indexAfter t (indexOf x (xs ++ ys))) (indexAfter t (indexOf x xs))
+    by-test true r = inl refl
+    by-test false (inl e) = inl (ap suc e)
+    by-test false (inr b) = inr (omega (arith, b .0), omega (arith, b .1))
+
+-- what is constant behind the first n depends on the place only
+pub at-same-place : {B : Type 0} (f : ℕ → B) (c : B) (n : ℕ) → ((i : ℕ) → n ≤ i → f i ≡ c) → (i k : ℕ) → SamePlace n i k → f i ≡ f k
+at-same-place f c n behind i k (inl e) = ap f e
+at-same-place f c n behind i k (inr b) = behind i (b .0) ∙ sym (behind k (b .1))
 
 -- a number that a list does not contain
 module _ (x : ℕ) where
-  absent-cons : (y : ℕ) (ys : List ℕ) → contains x (y ∷ ys) ≡ false → (eqb y x ≡ false) × (contains x ys ≡ false)
-  absent-cons y ys e = by-test (eqb y x) (sym (contains-cons x y ys) ∙ e)
-    where
-      by-test : (t : Bool) → (t || contains x ys) ≡ false → (t ≡ false) × (contains x ys ≡ false)
-      by-test true q = absurd (true≢false q)
-      by-test false q = (refl, q)
+  pub absent-cons : (y : ℕ) (ys : List ℕ) → contains x (y ∷ ys) ≡ false → (eqb y x ≡ false) × (contains x ys ≡ false)
+  absent-cons y ys e = or-neither (eqb y x) (contains x ys) (sym (contains-cons x y ys) ∙ e)
 
   cons-absent : (y : ℕ) (ys : List ℕ) → eqb y x ≡ false → contains x ys ≡ false → contains x (y ∷ ys) ≡ false
   cons-absent y ys e f = contains-cons x y ys ∙ ap₂ (λ (t u : Bool). t || u) e f
@@ -234,6 +269,15 @@ distinct-places (x ∷ xs) d zero (suc j) h l e =
     ∙ distinct-head x xs d)
 distinct-places (x ∷ xs) d (suc i) (suc j) h l e =
     distinct-places xs (distinct-tail x xs d) i j (le-of-suc-le-suc h) (le-of-suc-le-suc l) e
+
+-- so each is found at its place
+pub distinct-index : (xs : List ℕ) → distinct xs ≡ true → (i : ℕ) → i < length xs → indexOf (getD xs i 0) xs ≡ i
+unfolding indexOf indexAfter
+distinct-index [] d i h = absurd (not-suc-le-zero h)
+distinct-index (x ∷ xs) d zero h = ap (λ (t : Bool). indexAfter t (indexOf x xs)) (eq-eqb x x refl)
+distinct-index (x ∷ xs) d (suc i) h =
+    ap (λ (t : Bool). indexAfter t (indexOf (getD xs i 0) xs)) (ne-eqb x (getD xs i 0) (distinct-places (x ∷ xs) d 0 (suc i) (zero-lt-suc i) h))
+    ∙ ap suc (distinct-index xs (distinct-tail x xs d) i (le-of-suc-le-suc h))
 
 pub distinct-add : (xs : List ℕ) (x : ℕ) → distinct xs ≡ true → contains x xs ≡ false → distinct (xs ++ (x ∷ [])) ≡ true
 unfolding distinct contains indexOf

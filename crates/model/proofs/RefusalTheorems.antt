@@ -20,6 +20,7 @@ use Rattle.reader.specs.Fields.{FieldType, FieldValue, fieldsFit, fieldValues}
 use Rattle.reader.specs.Kinds
 use Rattle.reader.specs.Kinds.{ActionName, KindEntry, kinds, fieldsIn, kindFields}
 use Rattle.reader.specs.Messages.{content, bodyContent, messageContent, bodyFits}
+use Rattle.reader.specs.declared.Refusal.{Refusal}
 use Rattle.reader.specs.declared.Refusal.the-variants.{Frame, Kind, Body}
 use Rattle.reader.proofs.MessageLaws.{isKnown}
 use Rattle.model.specs.Lists.{forAll, contains}
@@ -231,6 +232,28 @@ rank-number alreadyRequested = refl
 rank-number pendingFull = refl
 rank-number usersFull = refl
 rank-number postsFull = refl
+
+-- ---- accepted: no row applies
+
+no-cause : (o : Option Cause) → numberReturned o ≡ 0 → o ≡ none
+no-cause none e = refl
+no-cause (some cause) e = absurd (omega (arith, rank-number cause, e))
+
+pub refused-number : (s : State) (refusal : Refusal) → stepAction s (refused refusal) .number ≡ 0 → ⊥
+unfolding stepAction respond
+refused-number s refusal e = Option·none-ne-some (malformed refusal) (sym (no-cause (some (malformed refusal)) e))
+
+-- of an action, and of a message
+pub accepted-action : (s : State) (a : Action) → stepAction s a .number ≡ 0 → firstCause (actionRows s a) ≡ none
+unfolding stepAction actionRows
+accepted-action s (change c) e = let cause = firstCause (changeRefusals s c) in no-cause cause (sym (respond-number cause s (applyChange s c) []) ∙ e)
+accepted-action s (query q) e = let cause = firstCause (queryRefusals s q) in no-cause cause (sym (respond-number cause s s (answerBody s q)) ∙ e)
+accepted-action s (refused refusal) e = absurd (refused-number s refusal e)
+
+pub accepted-message : (msg : List ℕ) (s : State) → stepState msg s .number ≡ 0 → firstCause (stateRows msg s) ≡ none
+accepted-message msg s e = no-cause (firstCause (stateRows msg s)) (sym (state-number msg s) ∙ e)
+
+-- ---- the rows rise
 
 -- no element is greater than a later one
 unfoldable pub rising : List ℕ → Bool

@@ -32,7 +32,7 @@ use Rattle.model.specs.State.{State}
 use Rattle.model.specs.Board.{encode, decode}
 use Rattle.model.specs.Soundness.{isSound}
 use Rattle.model.specs.Step.{answerLimit, Response, stepState, StepResult, writeAnswer, stepOf}
-use Rattle.model.specs.Replay.{framesOf, Exchange, runFrames, runOf, ReplayResult, stopped, continued, replayIn, replayOf}
+use Rattle.model.specs.Replay.{framesOf, unread, Exchange, runFrames, runOf, ReplayResult, stopped, continued, replayIn, replayOf}
 use Rattle.model.proofs.ListLaws.{all-at}
 use Rattle.model.proofs.SoundnessTheorems.{sound-state}
 use Rattle.model.proofs.RuleLaws.{ValidState}
@@ -41,7 +41,7 @@ use Rattle.model.proofs.Invariant.{step-valid}
 use Rattle.model.proofs.AnswerLaws.{answer-short}
 use Rattle.model.proofs.StepTheorems.{unsound-refused, arguments-accepted, step-valid-board, sound-valid, valid-board}
 use Rattle.model.proofs.BufferLaws.{take-start, drop-start, patch-behind}
-use Rattle.model.proofs.JournalLaws.{afterFirst, frames-none, frames-before, shorter-rest, unread, unread-none, unread-more, behindFrames, frames-behind, unread-behind, all-frames, exchangeFrames, exchangeAnswers, lastState, last-append, length-run, frames-run, frames-met, run-take, run-drop, run-keeps, answers-within, run-none, run-more}
+use Rattle.model.proofs.JournalLaws.{afterFirst, frames-none, frames-before, shorter-rest, unread-none, unread-more, behindFrames, frames-behind, unread-behind, all-frames, exchangeFrames, exchangeAnswers, lastState, last-append, length-run, frames-run, frames-met, run-take, run-drop, run-keeps, answers-within, run-none, run-more}
 
 -- ---- one place of a replay
 

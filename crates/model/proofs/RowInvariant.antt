@@ -16,7 +16,7 @@ use lib.Pow.{pow-mono}
 use borrow.Author.Tests.{not-false, eqb-true, eqb-false, eq-eqb, ne-eqb, lt-ltb}
 use Rattle.layout.specs.Bits.{bitAt, hasBit, setBit, clearBit}
 use Rattle.layout.specs.StringFields.{isString}
-use Rattle.layout.proofs.BooleanLaws.{and-left, and-right, and-both}
+use Rattle.layout.proofs.BooleanLaws.{and-left, and-right, and-both, apply-cond}
 use Rattle.layout.proofs.BitLaws.{bit-set, bit-set-other, bit-clear, bit-clear-other, set-lt, clear-le}
 use Rattle.reader.specs.Fields.{noteLimit}
 use Rattle.model.specs.Lists.{forAll, contains, distinct}
@@ -28,7 +28,7 @@ use Rattle.model.specs.Actions.{cFriendReq, cFriend, dFriend}
 use Rattle.model.specs.Refusals.{firstCause, changeRefusals, afterLogin, userRows}
 use Rattle.model.specs.Changes.{updateUser, setNote, writeRequest, writeFriend, addRequest, removeRequest, addFriends, removeFriends, acceptRequest, applyChange}
 use Rattle.model.proofs.StateRules.{storedFits}
-use Rattle.model.proofs.ListLaws.{all-at, all-set}
+use Rattle.model.proofs.ListLaws.{all-at, all-set, field-set}
 use Rattle.model.proofs.RecordTheorems.{userCodec, noteCodec}
 use Rattle.model.proofs.TableRecordLaws.{fits-count, fits-records, fits-set}
 use Rattle.model.proofs.BoardTheorems.{FittingState}
@@ -51,7 +51,7 @@ pub clear-writes : BitWrite clearBit 0
 clear-writes = record { there = λ row j h. bit-clear row j; elsewhere = bit-clear-other; bound = λ n row j h l. lt-of-le-of-lt (clear-le row j) h }
 
 -- row i of rows is written at place j
-writeRow : (ℕ → ℕ → ℕ) → ℕ → ℕ → (ℕ → ℕ) → ℕ → ℕ
+unfoldable pub writeRow : (ℕ → ℕ → ℕ) → ℕ → ℕ → (ℕ → ℕ) → ℕ → ℕ
 writeRow f i j rows k = cond (eqb k i) (f (rows k) j) (rows k)
 
 -- the rules for n rows: none has its own bit or one at or above n
@@ -63,7 +63,7 @@ abbrev SymmetricRows : ℕ → (ℕ → ℕ) → Type 0
 SymmetricRows n rows = (k m : ℕ) → k < n → m < n → bitAt (rows k) m ≡ bitAt (rows m) k
 
 module _ {f : ℕ → ℕ → ℕ} {value : ℕ} (w : BitWrite f value) (rows : ℕ → ℕ) where
-  bit-written : (i j : ℕ) → j < 32 → (k m : ℕ) → bitAt (writeRow f i j rows k) m ≡ cond (eqb k i && eqb m j) value (bitAt (rows k) m)
+  pub bit-written : (i j : ℕ) → j < 32 → (k m : ℕ) → bitAt (writeRow f i j rows k) m ≡ cond (eqb k i && eqb m j) value (bitAt (rows k) m)
   unfolding writeRow
   bit-written i j h k m = by-row (eqb k i)
     where
@@ -171,24 +171,16 @@ getD-updated xs g d i k h = by-place (eqb k i) refl
 
 module _ (s : State) (i : ℕ) (g : User → User) where
   -- a field of the users, changed and unchanged
-  field-updated : (field : User → ℕ) → i < length (s .users)
+  pub field-updated : (field : User → ℕ) → i < length (s .users)
       → (k : ℕ) → field (userAt (updateUser s i g) k) ≡ cond (eqb k i) (field (g (userAt s k))) (field (userAt s k))
   unfolding userAt updateUser
-  field-updated field h k = ap field (getD-updated (s .users) g noUser i k h) ∙ by-place (eqb k i)
-    where
-      by-place : (t : Bool) → field (cond t (g (userAt s k)) (userAt s k)) ≡ cond t (field (g (userAt s k))) (field (userAt s k))
-      by-place true = refl
-      by-place false = refl
+  field-updated field h k = ap field (getD-updated (s .users) g noUser i k h) ∙ apply-cond field (eqb k i) (g (userAt s k)) (userAt s k)
 
-  field-kept : (field : User → ℕ) → i < length (s .users) → ((a : User) → field (g a) ≡ field a)
-      → (k : ℕ) → field (userAt (updateUser s i g) k) ≡ field (userAt s k)
-  field-kept field h e k = field-updated field h k ∙ by-place (eqb k i)
-    where
-      by-place : (t : Bool) → cond t (field (g (userAt s k))) (field (userAt s k)) ≡ field (userAt s k)
-      by-place true = e (userAt s k)
-      by-place false = refl
+  pub field-kept : (field : User → ℕ) → ((a : User) → field (g a) ≡ field a) → (k : ℕ) → field (userAt (updateUser s i g) k) ≡ field (userAt s k)
+  unfolding userAt updateUser
+  field-kept field e = field-set field (s .users) i (g (userAt s i)) noUser (e (userAt s i))
 
-  numbers-kept : g (userAt s i) .number ≡ userAt s i .number → userNumbers (updateUser s i g) ≡ userNumbers s
+  pub numbers-kept : g (userAt s i) .number ≡ userAt s i .number → userNumbers (updateUser s i g) ≡ userNumbers s
   unfolding userAt userNumbers updateUser
   numbers-kept e = map-set-same (λ (u : User). u .number) (s .users) i (g (userAt s i)) noUser e
 
@@ -202,6 +194,16 @@ module _ (s : State) (i : ℕ) (g : User → User) where
       (ap (forAll storedFits) e ∙ all-set storedFits (userFields (userAt s i)) p (unsigned 4 x)
       (all-at (λ (u : User). forAll storedFits (userFields u)) (s .users) i noUser (fits-records userCodec userLimit (s .users) (fit .users)) h)
       (lt-ltb x (256 ^ 4) l)))
+
+-- a row written, on one side or on both
+module _ (f : ℕ → ℕ → ℕ) (s : State) (i j : ℕ) where
+  pub request-numbers : userNumbers (writeRequest f s i j) ≡ userNumbers s
+  request-numbers = numbers-kept s i (λ (a : User). withRequests a (f (a .requests) j)) refl
+
+  pub friend-numbers : userNumbers (writeFriend f (writeFriend f s i j) j i) ≡ userNumbers s
+  friend-numbers =
+      numbers-kept (writeFriend f s i j) j (λ (a : User). withFriends a (f (a .friends) i)) refl
+      ∙ numbers-kept s i (λ (a : User). withFriends a (f (a .friends) j)) refl
 
 note-written : (s : State) → FittingState s → (i j : ℕ) (note : List ℕ) → i < userLimit → j < userLimit
     → (k m : ℕ) → m < userLimit → noteAt (setNote s i j note) k m ≡ cond (eqb k i && eqb m j) note (noteAt s k m)
@@ -245,7 +247,7 @@ module _ {f : ℕ → ℕ → ℕ} {value : ℕ} (w : BitWrite f value) (s : Sta
         let t : State = writeRequest f s i j in
         let g : User → User = λ (a : User). withRequests a (f (a .requests) j) in
         let r = rules-of s (v .keeps) in
-        let friends : friendRows t ≡ friendRows s = λ p k. field-kept s i g (λ (u : User). u .friends) hi (λ a. refl) k p in
+        let friends : friendRows t ≡ friendRows s = λ p k. field-kept s i g (λ (u : User). u .friends) (λ a. refl) k p in
         let requests : requestRows t ≡ writeRow f i j (requestRows s) = λ p k. field-updated s i g (λ (u : User). u .requests) hi k p in
         let fit : FittingState t =
         fits-updated s i g (v .fits) hi 3 (f (userAt s i .requests) j) refl (row-lt (userAt s i .requests) j (r .requests-below i hi) hj)
@@ -253,7 +255,7 @@ module _ {f : ℕ → ℕ → ℕ} {value : ℕ} (w : BitWrite f value) (s : Sta
         record {
           fits = fits-note t fit i j note string;
           keeps = keeps-rules (setNote t i j note)
-              (rules-with-rows s r (omega arith) (t .users) (setNote t i j note .notes) (numbers-kept s i g refl)
+              (rules-with-rows s r (omega arith) (t .users) (setNote t i j note .notes) (request-numbers f s i j)
               (subst (RowRules n) (sym friends) (record { not-own = r .not-own-friend; below = r .friends-below }))
               (subst (SymmetricRows n) (sym friends) (r .symmetric))
               (subst (RowRules n) (sym requests)
@@ -286,7 +288,7 @@ module _ {f : ℕ → ℕ → ℕ} {value : ℕ} (w : BitWrite f value) (s : Sta
         (λ p k. field-updated s₁ j g₂ (λ (u : User). u .friends) there k p) ∙ ap (writeRow f j i) friends₁
         in
         let requests : requestRows s₂ ≡ requestRows s = λ p k.
-        (field-kept s₁ j g₂ (λ (u : User). u .requests) there (λ a. refl) k ∙ field-kept s i g₁ (λ (u : User). u .requests) hi (λ a. refl) k) p
+        (field-kept s₁ j g₂ (λ (u : User). u .requests) (λ a. refl) k ∙ field-kept s i g₁ (λ (u : User). u .requests) (λ a. refl) k) p
         in
         let rules₁ : RowRules n (writeRow f i j (friendRows s)) =
         rows-kept w (friendRows s) i j b hj own (record { not-own = r .not-own-friend; below = r .friends-below })
@@ -298,7 +300,7 @@ module _ {f : ℕ → ℕ → ℕ} {value : ℕ} (w : BitWrite f value) (s : Sta
         record {
           fits = fits-updated s₁ j g₂ fit₁ there 2 (f (userAt s₁ j .friends) i) refl (row-lt (userAt s₁ j .friends) i below₁ hi);
           keeps = keeps-rules s₂
-              (rules-with-rows s r (omega arith) (s₂ .users) (s .notes) (numbers-kept s₁ j g₂ refl ∙ numbers-kept s i g₁ refl)
+              (rules-with-rows s r (omega arith) (s₂ .users) (s .notes) (friend-numbers f s i j)
               (subst (RowRules n) (sym friends₂) (rows-kept w (writeRow f i j (friendRows s)) j i b hi (λ e. own (sym e)) rules₁))
               (subst (SymmetricRows n) (sym friends₂) (symmetric-kept w (friendRows s) i j b hi hj (r .symmetric)))
               (subst (RowRules n) (sym requests) (record { not-own = r .not-own-request; below = r .requests-below }))

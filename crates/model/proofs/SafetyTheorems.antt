@@ -9,13 +9,14 @@ use Prim.Native.Nat.{ℕ, zero, suc, _^_, _≤_, _<_}
 use native.Mathlib.Nat.{le-of-lt, le-refl}
 use mathlib.Core.Path.{_≡_, refl, sym, ap, _∙_}
 use mathlib.Core.List.{List, [], _∷_, _++_, map, map-append, append-nil}
-use mathlib.Core.Bool.{Bool, true, false, not, cond, true≢false}
+use mathlib.Core.Bool.{Bool, true, false, cond, true≢false}
 use lib.ListN.{length, getD, length-map, List·getD-map}
 use lib.Dec.{eqb, ltb}
 use borrow.Table.Steps.{cases}
 use borrow.Author.Tests.{ltb-true, ltb-false}
 use Rattle.bytes.specs.Bytes.{indexOf}
 use Rattle.layout.specs.Bits.{hasBit, setPlaces}
+use Rattle.layout.proofs.BooleanLaws.{apply-cond}
 use Rattle.layout.proofs.BitLaws.{has-beyond}
 use Rattle.model.specs.Lists.{contains, distinct}
 use Rattle.model.specs.State.{User, Post, State, userLimit, noUser, noPost, userNumbers, userAt, postAt}
@@ -35,14 +36,17 @@ slot-registered s i h =
     let ns : List ℕ = map (λ (u : User). u .number) (s .users) in
     ap (λ (x : ℕ). contains x ns) (sym (List·getD-map (λ (u : User). u .number) (s .users) i noUser)) ∙ contained-at ns i (rw length-map h)
 
-pub owner-registered : (s : State) → ValidState s → (n : ℕ) → isPost s n ≡ true → isRegistered s (ownerOf s (postNumbered s n) .number) ≡ true
-unfolding ownerOf postNumbered postAt
-owner-registered s valid n e =
-    let owner : ℕ = getD (s .posts) (postPlace s n) noPost .owner in
-    slot-registered s owner
-    (ltb-true owner (length (s .users))
+-- the slot of an owner is used
+pub owner-below : (s : State) → ValidState s → (n : ℕ) → isPost s n ≡ true → postNumbered s n .owner < length (s .users)
+unfolding postNumbered postAt
+owner-below s valid n e =
+    ltb-true (getD (s .posts) (postPlace s n) noPost .owner) (length (s .users))
     (all-at (λ (p : Post). ltb (p .owner) (length (s .users))) (s .posts) (postPlace s n) noPost (rules-of s (valid .keeps) .owners)
-    (post-below s n e)))
+    (post-below s n e))
+
+pub owner-registered : (s : State) → ValidState s → (n : ℕ) → isPost s n ≡ true → isRegistered s (ownerOf s (postNumbered s n) .number) ≡ true
+unfolding ownerOf
+owner-registered s valid n e = slot-registered s (postNumbered s n .owner) (owner-below s valid n e)
 
 -- ---- 2. friendship, whoever the two are
 
@@ -61,11 +65,7 @@ module _ (xs : List ℕ) (d : distinct xs ≡ true) (row : ℕ) (b : row < 2 ^ l
   unfolding at-places setPlaces
   places-grow k =
       map-append (λ (j : ℕ). getD xs j 0) (setPlaces row k) (cond (hasBit row k) (k ∷ []) [])
-      ∙ ap (λ (l : List ℕ). at-places k ++ l) (by-bit (hasBit row k))
-    where
-      by-bit : (t : Bool) → map (λ (j : ℕ). getD xs j 0) (cond t (k ∷ []) []) ≡ cond t (getD xs k 0 ∷ []) []
-      by-bit true = refl
-      by-bit false = refl
+      ∙ ap (λ (l : List ℕ). at-places k ++ l) (apply-cond (map (λ (j : ℕ). getD xs j 0)) (hasBit row k) (k ∷ []) [])
 
   places-absent : (j : ℕ) → j < length xs → (k : ℕ) → k ≤ j → contains (getD xs j 0) (at-places k) ≡ false
   unfolding at-places setPlaces contains indexOf

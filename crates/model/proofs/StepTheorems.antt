@@ -9,7 +9,7 @@ use Prim.Native.Nat.{ℕ, _≤_, _<_, zero-le}
 use native.Mathlib.Omega.{arith}
 use mathlib.Core.Path.{_≡_, refl, sym, ap, subst, _∙_}
 use mathlib.Core.List.{List, []}
-use mathlib.Core.Bool.{Bool, true, false, not, cond, _||_}
+use mathlib.Core.Bool.{true, false, cond, _||_}
 use mathlib.Core.Option.{Option, some, none}
 use lib.ListN.{length}
 use lib.Dec.{eqb, ltb, lit≤}
@@ -18,6 +18,7 @@ use borrow.Author.Tests.{lt-ltb, le-ltb, ne-eqb, ltb-true, ltb-false}
 use borrow.Table.Steps.{cases}
 use Rattle.layout.specs.Bytes.{patch}
 use Rattle.layout.proofs.ByteLaws.{length-patch}
+use Rattle.layout.proofs.BooleanLaws.{cond-same}
 use Rattle.reader.specs.Frames.{isFrame}
 use Rattle.model.specs.State.{State}
 use Rattle.model.specs.Board.{encode, decode}
@@ -34,10 +35,6 @@ use Rattle.model.proofs.RefusalTheorems.{frame-number}
 use Rattle.model.proofs.RuleLaws.{ValidState}
 use Rattle.model.proofs.Invariant.{step-valid}
 use Rattle.model.proofs.AnswerLaws.{answer-short}
-
-cond-same : {A : Type 0} (b : Bool) (x : A) → cond b x x ≡ x
-cond-same true x = refl
-cond-same false x = refl
 
 -- ---- the refusals of the board and of the buffer
 

@@ -1,6 +1,6 @@
 -- "Replay": a journal on a board, and the run of a journal without buffers.
 use Prim.Native.Nat.{ℕ, zero, suc, _+_}
-use mathlib.Core.List.{List, [], _∷_, _++_}
+use mathlib.Core.List.{List, [], _∷_, _++_, flatten}
 use mathlib.Core.Bool.{cond}
 use lib.ListN.{length, take, drop}
 use lib.Dec.{eqb, ltb}
@@ -19,6 +19,10 @@ framesIn (suc count) j =
 
 unfoldable pub framesOf : List ℕ → List (List ℕ)
 framesOf j = framesIn (length j) j
+
+-- what is left behind the frames
+unfoldable pub unread : List ℕ → List ℕ
+unread j = drop (length (flatten (framesOf j))) j
 
 -- a frame, the state that it meets, and the response
 pub record Exchange (S : Type 0) : Type 0 where

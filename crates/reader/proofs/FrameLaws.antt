@@ -4,7 +4,7 @@ use Prim.Native.Nat.{ℕ, _+_, _-_, _≤_, _<_}
 use native.Mathlib.Nat.{zero-add}
 use native.Mathlib.Omega.{arith}
 use mathlib.Core.Path.{_≡_, refl, sym, ap, ap₂, _∙_}
-use mathlib.Core.List.{List, _++_}
+use mathlib.Core.List.{List, [], _++_, append-assoc, append-nil}
 use mathlib.Core.Bool.{Bool, true, false, _&&_, not, cond, and-false}
 use lib.ListN.{length, take, drop, length-append, length-drop}
 use lib.Seq.{length-take-le, take-at, take-append-le, drop-at, drop-drop}
@@ -152,16 +152,19 @@ module _ (kind : ℕ) (body : List ℕ) where
       simp (le-leb 4 (length (frameBytes kind body)) (omega arith))
       (ap (λ (x : List ℕ). fromLeBytes (take 2 x)) frame-behind ∙ ap fromLeBytes (take-at (toLeBytes 2 kind) body 2 (length-to 2 kind)) ∙ from-to 2 kind h)
 
-  frame-stated : length body ≤ 274 → lengthField (frameBytes kind body) ≡ 2 + length body
+  -- the length that it states, with bytes behind it
+  pub frame-stated : (rest : List ℕ) → 2 + length body < 65536 → lengthField (frameBytes kind body ++ rest) ≡ 2 + length body
   unfolding lengthField frameBytes bytesAt
-  frame-stated h =
-      ap fromLeBytes (take-at (toLeBytes 2 (2 + length body)) (toLeBytes 2 kind ++ body) 2 (length-to 2 (2 + length body)))
-      ∙ from-to 2 (2 + length body) (omega arith)
+  frame-stated rest h =
+      let l : List ℕ = toLeBytes 2 (2 + length body) in
+      ap (λ (x : List ℕ). fromLeBytes (take 2 x)) (append-assoc l (toLeBytes 2 kind ++ body) rest)
+      ∙ ap fromLeBytes (take-at l (toLeBytes 2 kind ++ body ++ rest) 2 (length-to 2 (2 + length body)))
+      ∙ from-to 2 (2 + length body) h
 
   pub frame-is-frame : length body ≤ 274 → isFrame (frameBytes kind body) ≡ true
   frame-is-frame h =
       let l = length-frame in
-      let e = frame-stated h in
+      let e = ap lengthField (sym (append-nil (frameBytes kind body))) ∙ frame-stated [] (omega arith) in
       let f = frame-length (frameBytes kind body) (omega arith) (omega arith) (omega arith) (omega arith) in
       is-frame (frameBytes kind body) (λ z. omega arith) (omega arith)
 
