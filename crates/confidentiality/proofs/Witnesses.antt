@@ -1,0 +1,403 @@
+-- Journals on which the claim is computed, from the empty state. 7 is the admin and 9 owns post 50; the set is {7} unless said otherwise.
+-- A pair that the claim speaks of, with updates purged, an opening and a text that is read:
+--     opened-differ, opened-agree   all its hypotheses hold
+--     opened-windows                an opening in each, and the last texts before it
+--     opened-observed               what the set observes
+--     opened-replayed               so do the replays, in any buffers with room
+-- Pairs that break one hypothesis alone, and that the set tells apart:
+--     last-texts-needed       the last texts before an opening are the same
+--     common-last-texts, all-updates-needed   .. of all updates of the window, not of the purged ones only
+--     closed-needed           a purged update is met while the post is closed
+--     number-needed           .. has the number of the post
+--     accepted-needed         .. is accepted
+--     room-needed             the replays have room to their ends (one journal, two buffers)
+-- Values:
+--     rest-compared           journals with the same frames and other bytes behind them do not differ only in updates
+--     unmarked-remain         where the marks end nothing is purged
+--     observed-senders        who sends a message
+--     closed-by-owner, closed-by-visibility, registration-opens   to whom a post is closed
+--     window-values           the windows of a journal
+use Prim.Native.Nat.{ℕ, _+_, _*_, _≤_}
+use mathlib.Core.Path.{_≡_, refl, sym, ap, subst}
+use mathlib.Core.List.{List, [], _∷_, _++_, map, flatten, zipWith}
+use mathlib.Core.Bool.{Bool, true, false, cond, _||_, true≢false}
+use mathlib.Core.Option.{Option, some, none, Option·getD}
+use lib.ListN.{length, getD}
+use lib.Dec.{eqb}
+use borrow.Author.Tests.{eqb-false}
+use Rattle.reader.specs.Messages.{messageContent}
+use Rattle.model.specs.State.{emptyState}
+use Rattle.model.specs.Board.{emptyBoard}
+use Rattle.model.specs.Step.{answerLimit, stepState}
+use Rattle.model.specs.Replay.{framesOf, stopped, replayIn, replayOf}
+use Rattle.model.proofs.SoundnessTheorems.{empty-sound}
+use Rattle.model.proofs.CaseTable.{message, login, target, targetString, registrationRequest, registration, visibilityUpdate}
+use Rattle.confidentiality.specs.Traces.{Event, Trace, runTrace, isAccepted, answersIn, replayTrace}
+use Rattle.confidentiality.specs.History.{History, afterEvent, isAbout, textField, closedTo, isTextUpdate}
+use Rattle.confidentiality.specs.Windows.{Marked, Window, windows, AgreeAtOpenings}
+use Rattle.confidentiality.specs.Purging.{mark, remaining, purgedWhileClosed, DifferOnly}
+use Rattle.confidentiality.specs.Confidentiality.{lastText, SameLastText, observed, Noninterference, Confidential}
+use Rattle.confidentiality.specs.Accountability.{historyOf}
+use Rattle.confidentiality.proofs.Definitions.{claimDefinitions}
+use Rattle.confidentiality.proofs.ReplayTraces.{replay-trace}
+use Rattle.confidentiality.proofs.ConfidentialityTheorems.{confidential, empty-room}
+
+-- ---- messages and journals
+
+-- a journal as its messages, each with whether it is purged
+abbrev pub MarkedJournal : Type 0
+MarkedJournal = List (List ℕ × Bool)
+
+abbrev pub retain : List ℕ → List ℕ × Bool
+retain m = (m, false)
+
+abbrev pub purge : List ℕ → List ℕ × Bool
+purge m = (m, true)
+
+abbrev pub bytesOf : MarkedJournal → List ℕ
+bytesOf j = flatten (map (λ (m : List ℕ × Bool). m .0) j)
+
+abbrev pub marksOf : MarkedJournal → List Bool
+marksOf j = map (λ (m : List ℕ × Bool). m .1) j
+
+abbrev pub onlyUser : ℕ → ℕ → Bool
+onlyUser v u = eqb u v
+
+-- 7 starts with password 1, and registers 9 with password 3, who makes post 50
+abbrev pub staffed : List (List ℕ)
+staffed = login 0x0101 7 1 ∷ registrationRequest 9 [] ∷ registration 7 1 9 3 ∷ []
+
+abbrev pub created : List (List ℕ)
+created = staffed ++ (targetString 0x0203 9 3 50 [] ∷ [])
+
+-- 9 gives post 50 a text of one byte
+abbrev pub setText : ℕ → List ℕ
+setText x = targetString 0x0403 9 3 50 (x ∷ [])
+
+-- 7 and 9 become friends
+abbrev pub befriend : List (List ℕ)
+befriend = targetString 0x0204 7 1 9 [] ∷ target 0x0205 9 3 7 ∷ []
+
+-- 7 asks for the text of post 50
+abbrev pub readText : List ℕ
+readText = target 0x0505 7 1 50
+
+-- they become friends, and 7 asks
+abbrev pub opening : MarkedJournal
+opening = map retain (befriend ++ (readText ∷ []))
+
+-- ---- the hypotheses and the conclusion of the claim
+
+abbrev pub traceOf : MarkedJournal → Trace
+traceOf j = runTrace isAccepted stepState emptyState (bytesOf j)
+
+abbrev pub markedEvents : MarkedJournal → List Marked
+markedEvents j = mark (marksOf j) (traceOf j .events)
+
+abbrev pub remainingBytes : MarkedJournal → List ℕ
+remainingBytes j = flatten (remaining (markedEvents j)) ++ traceOf j .rest
+
+-- of each purged message: whether it is accepted, whether it is a 0403 with the number of the post, whether the post is closed before it
+unfoldable pub purgingTests : (ℕ → Bool) → ℕ → History → List Marked → List (Bool × Bool × Bool)
+purgingTests observers n h [] = []
+purgingTests observers n h (c ∷ cs) =
+    let later : List (Bool × Bool × Bool) = purgingTests observers n (afterEvent h (c .event)) cs in
+    cond (c .purged) ((c .event .accepted, isAbout 0x0403 n (messageContent (c .event .frame)), closedTo observers n h) ∷ later) later
+
+module _ (observers : ℕ → Bool) (n : ℕ) where
+  abbrev pub mayBePurged : MarkedJournal → Bool
+  mayBePurged j = purgedWhileClosed (closedTo observers n) (isTextUpdate n) [] (markedEvents j)
+
+  abbrev pub windowsOf : MarkedJournal → List Window
+  windowsOf j = windows (closedTo observers n) (isTextUpdate n) [] [] (markedEvents j)
+
+  abbrev pub lastTexts : MarkedJournal → List (Option (List ℕ))
+  lastTexts j = map (λ (w : Window). lastText (w .updates)) (windowsOf j)
+
+  abbrev pub openingsOf : MarkedJournal → List Bool
+  openingsOf j = map (λ (w : Window). w .opens) (windowsOf j)
+
+  module _ (j₁ j₂ : MarkedJournal) where
+    abbrev pub JournalsDiffer : Type 0
+    JournalsDiffer = DifferOnly (closedTo observers n) (isTextUpdate n) (traceOf j₁) (traceOf j₂) (marksOf j₁) (marksOf j₂)
+
+    abbrev pub WindowsAgree : Type 0
+    WindowsAgree = AgreeAtOpenings SameLastText (windowsOf j₁) (windowsOf j₂)
+
+    abbrev pub SameObserved : Type 0
+    SameObserved = observed observers (traceOf j₁ .events) ≡ observed observers (traceOf j₂ .events)
+
+    -- only the condition on the last texts fails
+    abbrev pub LastTextsFail : Type 0
+    LastTextsFail = JournalsDiffer × (WindowsAgree → ⊥) × (SameObserved → ⊥)
+
+    -- only the condition on what is purged fails, by these tests of the one message that is purged in the first journal
+    abbrev pub PurgingFails : Bool × Bool × Bool → Type 0
+    PurgingFails tests =
+        (purgingTests observers n [] (markedEvents j₁) ≡ tests ∷ []) × (mayBePurged j₁ ≡ false) × (mayBePurged j₂ ≡ true)
+        × (remainingBytes j₁ ≡ remainingBytes j₂) × WindowsAgree × (SameObserved → ⊥)
+
+-- what a number tells apart is not the same
+pub told-apart : {A : Type 0} (f : A → ℕ) (x y : A) → eqb (f x) (f y) ≡ false → x ≡ y → ⊥
+told-apart f x y d e = eqb-false (f x) (f y) d (ap f e)
+
+-- the windows agree if there is one in each and no opening follows the first
+pub no-opening : {A B : Type 0} → (false ≡ true → A → B) × Unit {0}
+no-opening = ((λ e a. absurd (true≢false (sym e))), tt)
+
+-- byte k of answer i
+abbrev pub answerByte : ℕ → ℕ → List (List ℕ × List ℕ) → ℕ
+answerByte i k xs = getD (getD xs i ([], []) .1) k 0
+
+-- the first byte of a text
+abbrev textByte : Option (List ℕ) → ℕ
+textByte text = getD (Option·getD text []) 0 0
+
+-- ---- a pair that the claim speaks of
+
+abbrev pub opened₁ : MarkedJournal
+opened₁ = map retain created ++ (purge (setText 65) ∷ retain (setText 68) ∷ opening)
+
+abbrev pub opened₂ : MarkedJournal
+opened₂ = map retain created ++ (purge (setText 66) ∷ purge (setText 67) ∷ retain (setText 68) ∷ opening)
+
+pub opened-differ : JournalsDiffer (onlyUser 7) 50 opened₁ opened₂
+unfolding claimDefinitions
+opened-differ = record { purged₁ = refl; purged₂ = refl; same-bytes = refl }
+
+pub opened-windows : (openingsOf (onlyUser 7) 50 opened₁ ≡ true ∷ []) × (openingsOf (onlyUser 7) 50 opened₂ ≡ true ∷ [])
+    × (lastTexts (onlyUser 7) 50 opened₁ ≡ some (68 ∷ []) ∷ []) × (lastTexts (onlyUser 7) 50 opened₂ ≡ some (68 ∷ []) ∷ [])
+unfolding claimDefinitions
+opened-windows = (refl, refl, refl, refl)
+
+pub opened-agree : WindowsAgree (onlyUser 7) 50 opened₁ opened₂
+unfolding claimDefinitions
+opened-agree = ((λ e f. refl), tt)
+
+-- the frames of 7 and their answers: the admin starts, registers 9, requests 9 and reads the text
+pub opened-observed : observed (onlyUser 7) (traceOf opened₂ .events) ≡
+    (login 0x0101 7 1, 2 ∷ 0 ∷ 0 ∷ 0 ∷ [])
+    ∷ (registration 7 1 9 3, 2 ∷ 0 ∷ 0 ∷ 0 ∷ [])
+    ∷ (targetString 0x0204 7 1 9 [], 2 ∷ 0 ∷ 0 ∷ 0 ∷ [])
+    ∷ (readText, 5 ∷ 0 ∷ 0 ∷ 0 ∷ 1 ∷ 0 ∷ 68 ∷ []) ∷ []
+unfolding claimDefinitions
+opened-observed = refl
+
+-- ---- the last texts
+
+-- 65 or 66, both purged, before the opening
+abbrev pub lastDiffers₁ : MarkedJournal
+lastDiffers₁ = map retain created ++ (purge (setText 65) ∷ opening)
+
+abbrev pub lastDiffers₂ : MarkedJournal
+lastDiffers₂ = map retain created ++ (purge (setText 66) ∷ opening)
+
+pub last-texts-needed : LastTextsFail (onlyUser 7) 50 lastDiffers₁ lastDiffers₂
+unfolding claimDefinitions
+last-texts-needed = (
+  record { purged₁ = refl; purged₂ = refl; same-bytes = refl },
+  (λ agree. told-apart textByte (some (65 ∷ [])) (some (66 ∷ [])) refl (agree .0 refl refl)),
+  told-apart (answerByte 3 6) _ _ refl,
+)
+
+-- 65 purged before a common 68, or behind it
+abbrev pub common₁ : MarkedJournal
+common₁ = opened₁
+
+abbrev pub common₂ : MarkedJournal
+common₂ = map retain created ++ (retain (setText 68) ∷ purge (setText 65) ∷ opening)
+
+abbrev pub purgedEvents : MarkedJournal → List Event
+purgedEvents j = flatten (map (λ (c : Marked). cond (c .purged) (c .event ∷ []) []) (markedEvents j))
+
+-- the purged updates alone have the same last text, all updates do not
+pub common-last-texts : (lastText (purgedEvents common₁) ≡ some (65 ∷ [])) × (lastText (purgedEvents common₂) ≡ some (65 ∷ []))
+    × (lastTexts (onlyUser 7) 50 common₁ ≡ some (68 ∷ []) ∷ []) × (lastTexts (onlyUser 7) 50 common₂ ≡ some (65 ∷ []) ∷ [])
+unfolding claimDefinitions
+common-last-texts = (refl, refl, refl, refl)
+
+pub all-updates-needed : LastTextsFail (onlyUser 7) 50 common₁ common₂
+unfolding claimDefinitions
+all-updates-needed = (
+  record { purged₁ = refl; purged₂ = refl; same-bytes = refl },
+  (λ agree. told-apart textByte (some (68 ∷ [])) (some (65 ∷ [])) refl (agree .0 refl refl)),
+  told-apart (answerByte 3 6) _ _ refl,
+)
+
+-- ---- what is purged
+
+-- purged while 7 and 9 are friends
+abbrev pub metOpen₁ : MarkedJournal
+metOpen₁ = map retain (created ++ befriend) ++ (purge (setText 65) ∷ retain readText ∷ [])
+
+abbrev pub metOpen₂ : MarkedJournal
+metOpen₂ = map retain (created ++ befriend ++ (readText ∷ []))
+
+pub closed-needed : PurgingFails (onlyUser 7) 50 metOpen₁ metOpen₂ (true, true, false)
+unfolding claimDefinitions purgingTests
+closed-needed = (refl, refl, refl, refl, ((λ e f. refl), tt), told-apart (answerByte 3 0) _ _ refl)
+
+-- the text of post 51 of 9, which is public; post 50 is never opened
+abbrev pub publicPost : List (List ℕ)
+publicPost = created ++ (targetString 0x0203 9 3 51 [] ∷ visibilityUpdate 9 3 51 1 ∷ [])
+
+abbrev pub otherPost₁ : MarkedJournal
+otherPost₁ = map retain publicPost ++ (purge (targetString 0x0403 9 3 51 (65 ∷ [])) ∷ retain (target 0x0505 7 1 51) ∷ [])
+
+abbrev pub otherPost₂ : MarkedJournal
+otherPost₂ = map retain (publicPost ++ (target 0x0505 7 1 51 ∷ []))
+
+pub number-needed : PurgingFails (onlyUser 7) 50 otherPost₁ otherPost₂ (true, false, true)
+unfolding claimDefinitions purgingTests
+number-needed = (refl, refl, refl, refl, no-opening, told-apart (answerByte 2 0) _ _ refl)
+
+-- a 0403 of 7, who does not own the post
+abbrev pub refused₁ : MarkedJournal
+refused₁ = map retain created ++ (purge (targetString 0x0403 7 1 50 (65 ∷ [])) ∷ [])
+
+abbrev pub refused₂ : MarkedJournal
+refused₂ = map retain created
+
+pub accepted-needed : PurgingFails (onlyUser 7) 50 refused₁ refused₂ (false, true, true)
+unfolding claimDefinitions purgingTests
+accepted-needed = (refl, refl, refl, refl, no-opening, told-apart {A = List (List ℕ × List ℕ)} length _ _ refl)
+
+-- ---- the bytes behind the frames
+
+-- a lone byte, which is no frame
+abbrev pub longerRest : MarkedJournal
+longerRest = map retain (created ++ ((5 ∷ []) ∷ []))
+
+pub rest-compared : (remaining (markedEvents longerRest) ≡ remaining (markedEvents (map retain created)))
+    × (JournalsDiffer (onlyUser 7) 50 longerRest (map retain created) → ⊥)
+unfolding claimDefinitions
+rest-compared = (refl, (λ differ. told-apart {A = List ℕ} length _ _ refl (differ .same-bytes)))
+
+-- ---- marks and senders
+
+pub unmarked-remain : remaining (mark [] (traceOf (map retain created) .events)) ≡ created
+unfolding claimDefinitions
+unmarked-remain = refl
+
+-- messages of an unknown kind: 7 in four bytes, 7 in three bytes, and 8 with more behind it
+abbrev pub unknownKinds : MarkedJournal
+unknownKinds = map (λ (body : List ℕ). retain (message 0x0607 (body ∷ []))) ((7 ∷ 0 ∷ 0 ∷ 0 ∷ []) ∷ (7 ∷ 0 ∷ 0 ∷ []) ∷ (8 ∷ 0 ∷ 0 ∷ 0 ∷ 7 ∷ []) ∷ [])
+
+pub observed-senders : observed (onlyUser 7) (traceOf unknownKinds .events) ≡ (message 0x0607 ((7 ∷ 0 ∷ 0 ∷ 0 ∷ []) ∷ []), 2 ∷ 0 ∷ 4 ∷ 0 ∷ []) ∷ []
+unfolding claimDefinitions
+observed-senders = refl
+
+-- ---- closed and open
+
+-- the history of a journal
+unfoldable pub historyAfter : List (List ℕ) → History
+historyAfter ms = historyOf (runTrace isAccepted stepState emptyState (flatten ms))
+
+-- 7 registers 8 with password 2
+abbrev pub register8 : List (List ℕ)
+register8 = registrationRequest 8 [] ∷ registration 7 1 8 2 ∷ []
+
+-- the owner and friends
+pub closed-by-owner :
+    -- a post that is not made is closed, to its later owner too
+    (closedTo (onlyUser 7) 50 (historyAfter staffed) ≡ true) × (closedTo (onlyUser 9) 50 (historyAfter staffed) ≡ true)
+    -- then it is open to its owner, and closed to others, also to the admin and to the owner of another post
+    × (closedTo (onlyUser 9) 50 (historyAfter created) ≡ false) × (closedTo (onlyUser 7) 50 (historyAfter created) ≡ true)
+    × (closedTo (onlyUser 7) 50 (historyAfter (created ++ (targetString 0x0203 7 1 51 [] ∷ []))) ≡ true)
+    -- a request opens nothing, a friendship with the owner does, to the friend alone, and its end closes
+    × (closedTo (onlyUser 7) 50 (historyAfter (created ++ (targetString 0x0204 7 1 9 [] ∷ []))) ≡ true)
+    × (closedTo (onlyUser 7) 50 (historyAfter (created ++ befriend)) ≡ false)
+    × (closedTo (onlyUser 8) 50 (historyAfter (created ++ register8 ++ befriend)) ≡ true)
+    × (closedTo (onlyUser 7) 50 (historyAfter (created ++ befriend ++ (target 0x0301 7 1 9 ∷ []))) ≡ true)
+    -- .. where the owner requests and the other accepts, or the owner ends it, too
+    × (closedTo (onlyUser 7) 50 (historyAfter (created ++ (targetString 0x0204 9 3 7 [] ∷ target 0x0205 7 1 9 ∷ []))) ≡ false)
+    × (closedTo (onlyUser 7) 50 (historyAfter (created ++ befriend ++ (target 0x0301 9 3 7 ∷ []))) ≡ true)
+    -- a friendship with somebody else opens nothing
+    × (closedTo (onlyUser 7) 50 (historyAfter (created ++ register8 ++ (targetString 0x0204 7 1 8 [] ∷ target 0x0205 8 2 7 ∷ []))) ≡ true)
+unfolding claimDefinitions historyAfter historyOf
+closed-by-owner = (refl, refl, refl, refl, refl, refl, refl, refl, refl, refl, refl, refl)
+
+abbrev pub published : List (List ℕ)
+published = created ++ (visibilityUpdate 9 3 50 1 ∷ [])
+
+pub closed-by-visibility :
+    -- a public post is open to a set with a registered member, and closed to a set without one
+    (closedTo (onlyUser 7) 50 (historyAfter published) ≡ false) × (closedTo (onlyUser 8) 50 (historyAfter published) ≡ true)
+    × (closedTo (λ u. onlyUser 7 u || onlyUser 8 u) 50 (historyAfter published) ≡ false)
+    -- the last 0405 counts, and a refused one does not
+    × (closedTo (onlyUser 7) 50 (historyAfter (published ++ (visibilityUpdate 9 3 50 0 ∷ []))) ≡ true)
+    × (closedTo (onlyUser 7) 50 (historyAfter (created ++ (visibilityUpdate 7 1 50 1 ∷ []))) ≡ true)
+unfolding claimDefinitions historyAfter historyOf
+closed-by-visibility = (refl, refl, refl, refl, refl)
+
+-- ---- windows
+
+-- the 0202 of 8 is an opening of a public post to {8}, as the last message
+pub registration-opens : (closedTo (onlyUser 8) 50 (historyAfter (published ++ (registrationRequest 8 [] ∷ []))) ≡ true)
+    × (closedTo (onlyUser 8) 50 (historyAfter (published ++ register8)) ≡ false)
+    × (openingsOf (onlyUser 8) 50 (map retain (published ++ register8)) ≡ true ∷ [])
+unfolding claimDefinitions historyAfter historyOf
+registration-opens = (refl, refl, refl)
+
+-- 65 until 7 and 9 become friends; 66 in between; 67 and 68 after the friendship until the post is public; then it is not
+abbrev pub threeWindows : MarkedJournal
+threeWindows =
+    map retain
+    (created ++ (setText 65 ∷ befriend) ++ (setText 66 ∷ target 0x0301 7 1 9 ∷ setText 67 ∷ setText 68 ∷ visibilityUpdate 9 3 50 1
+    ∷ visibilityUpdate 9 3 50 0 ∷ []))
+
+pub window-values : (openingsOf (onlyUser 7) 50 threeWindows ≡ true ∷ true ∷ false ∷ [])
+    × (map (λ (w : Window). map (λ (e : Event). textField (messageContent (e .frame))) (w .updates)) (windowsOf (onlyUser 7) 50 threeWindows)
+    ≡ ((65 ∷ []) ∷ []) ∷ ((67 ∷ []) ∷ (68 ∷ []) ∷ []) ∷ [] ∷ [])
+    × (lastTexts (onlyUser 7) 50 threeWindows ≡ some (65 ∷ []) ∷ some (68 ∷ []) ∷ none ∷ [])
+unfolding claimDefinitions
+window-values = (refl, refl, refl)
+
+-- ---- room
+
+-- the journal of one message
+abbrev starting : List ℕ
+starting = login 0x0101 7 1
+
+stops-without-room : replayOf starting emptyBoard [] ≡ stopped 2 emptyBoard []
+unfolding replayOf replayIn claimDefinitions
+stops-without-room = rw empty-sound
+
+-- the traces t₁ and t₂ meet the hypotheses on what is purged and on openings, nothing purged, and the set {7} tells them apart
+abbrev pub ToldApart : Trace → Trace → Type 0
+ToldApart t₁ t₂ =
+    DifferOnly (closedTo (onlyUser 7) 50) (isTextUpdate 50) t₁ t₂ [] []
+    × AgreeAtOpenings SameLastText
+    (windows (closedTo (onlyUser 7) 50) (isTextUpdate 50) [] [] (mark [] (t₁ .events)))
+    (windows (closedTo (onlyUser 7) 50) (isTextUpdate 50) [] [] (mark [] (t₂ .events)))
+    × (observed (onlyUser 7) (t₁ .events) ≡ observed (onlyUser 7) (t₂ .events) → ⊥)
+
+-- the same journal twice, once without room and once with room to the end
+pub room-needed : (o : List ℕ) → (replayOf starting emptyBoard o .stop ≡ 2 → ⊥)
+    → ToldApart (replayTrace starting (replayOf starting emptyBoard [])) (replayTrace starting (replayOf starting emptyBoard o))
+unfolding claimDefinitions replayTrace zipWith answersIn stopped
+room-needed o room =
+    subst (λ (t : Trace). ToldApart t (replayTrace starting (replayOf starting emptyBoard o))) (sym (ap (replayTrace starting) stops-without-room))
+    (subst (ToldApart (replayTrace starting (stopped 2 emptyBoard []))) (sym (replay-trace starting o room))
+    (record { purged₁ = refl; purged₂ = refl; same-bytes = refl }, no-opening, told-apart {A = List (List ℕ × List ℕ)} length _ _ refl))
+
+-- the pair that the claim speaks of, replayed in any buffers with room: what the set observes is the same, and holds the text
+pub opened-replayed : (o₁ o₂ : List ℕ) → answerLimit * (1 + length (framesOf (bytesOf opened₁))) ≤ length o₁
+    → answerLimit * (1 + length (framesOf (bytesOf opened₂))) ≤ length o₂
+    → let t₁ : Trace = replayTrace (bytesOf opened₁) (replayOf (bytesOf opened₁) emptyBoard o₁) in
+    let t₂ : Trace = replayTrace (bytesOf opened₂) (replayOf (bytesOf opened₂) emptyBoard o₂) in
+    (observed (onlyUser 7) (t₁ .events) ≡ observed (onlyUser 7) (t₂ .events)) × (answerByte 3 6 (observed (onlyUser 7) (t₁ .events)) ≡ 68)
+opened-replayed o₁ o₂ room₁ room₂ =
+    rw (
+      replay-trace (bytesOf opened₁) o₁ (empty-room (bytesOf opened₁) o₁ room₁),
+      replay-trace (bytesOf opened₂) o₂ (empty-room (bytesOf opened₂) o₂ room₂),
+    )
+    (same, text)
+  where
+    same : observed (onlyUser 7) (traceOf opened₁ .events) ≡ observed (onlyUser 7) (traceOf opened₂ .events)
+    same =
+        unfold Confidential Noninterference in
+        confidential (onlyUser 7) 50 (bytesOf opened₁) (bytesOf opened₂) (marksOf opened₁) (marksOf opened₂) opened-differ opened-agree
+
+    text : answerByte 3 6 (observed (onlyUser 7) (traceOf opened₁ .events)) ≡ 68
+    text = unfold claimDefinitions in refl
