@@ -10,6 +10,7 @@
 --     closed-needed           a purged update is met while the post is closed
 --     number-needed           .. has the number of the post
 --     accepted-needed         .. is accepted
+--     bytes-needed            the same bytes remain
 --     room-needed             the replays have room to their ends (one journal, two buffers)
 -- Values:
 --     rest-compared           journals with the same frames and other bytes behind them do not differ only in updates
@@ -261,6 +262,21 @@ refused₂ = map retain created
 pub accepted-needed : PurgingFails (onlyUser 7) 50 refused₁ refused₂ (false, true, true)
 unfolding claimDefinitions purgingTests
 accepted-needed = (refl, refl, refl, refl, no-opening, told-apart {A = List (List ℕ × List ℕ)} length _ _ refl)
+
+-- ---- the bytes that remain
+
+-- a further message of 7 in the first journal, nothing purged
+abbrev pub further₁ : MarkedJournal
+further₁ = map retain (created ++ (readText ∷ []))
+
+abbrev pub further₂ : MarkedJournal
+further₂ = map retain created
+
+pub bytes-needed : (mayBePurged (onlyUser 7) 50 further₁ ≡ true) × (mayBePurged (onlyUser 7) 50 further₂ ≡ true)
+    × (remainingBytes further₁ ≡ remainingBytes further₂ → ⊥) × WindowsAgree (onlyUser 7) 50 further₁ further₂
+    × (SameObserved (onlyUser 7) 50 further₁ further₂ → ⊥)
+unfolding claimDefinitions
+bytes-needed = (refl, refl, told-apart {A = List ℕ} length _ _ refl, no-opening, told-apart {A = List (List ℕ × List ℕ)} length _ _ refl)
 
 -- ---- the bytes behind the frames
 

@@ -11,7 +11,7 @@ pub record Marked : Type 0 where
   pub purged : Bool
 
 -- "A shut stretch is a longest run of places at which the post is shut; it has the updates that stand at its places". An opening follows it
--- or not; the history is that behind the opening, or that at the end.
+-- or not; the history is that behind the opening, or that at the end, for claims that ask about it (the one about texts does not).
 pub record Window : Type 0 where
   pub updates : List Event
   pub opens : Bool
