@@ -27,7 +27,7 @@ pub bit-beyond : (row n j : ℕ) → row < 2 ^ n → n ≤ j → bitAt row j ≡
 unfolding bitAt
 bit-beyond row n j h l = ap (λ (x : ℕ). x % 2) (div-eq-of-lt (lt-of-lt-of-le h (pow-mono l)))
 
-bit-power : (j : ℕ) → bitAt (2 ^ j) j ≡ 1
+pub bit-power : (j : ℕ) → bitAt (2 ^ j) j ≡ 1
 unfolding bitAt
 bit-power j = ap (λ (x : ℕ). x % 2) (div-self (pow-pos j))
 
@@ -45,7 +45,7 @@ bit-power-other j k n =
         ap (λ (x : ℕ). x / 2 ^ k % 2) (pow-add 2 (suc d) k)
         ∙ ap (λ (x : ℕ). x % 2) (shl-shr (2 ^ suc d) k ∙ pow-suc 2 d) ∙ mul-mod-left (2 ^ d) 2
 
-bit-or : (a b k : ℕ) → bitAt (bitOr a b) k ≡ max (bitAt a k) (bitAt b k)
+pub bit-or : (a b k : ℕ) → bitAt (bitOr a b) k ≡ max (bitAt a k) (bitAt b k)
 unfolding bitAt
 bit-or a b k = ap (λ (x : ℕ). x % 2) (or-shr a b k) ∙ lowest (a / 2 ^ k) (b / 2 ^ k)
   where
@@ -75,7 +75,7 @@ unfolding setBit
 set-beyond row j h = ap (λ (t : Bool). cond t (row + (1 - bitAt row j) * 2 ^ j) row) (le-ltb j 32 h)
 
 -- a 1 shifted by less than the width
-pub one-shifted : (j : ℕ) → j < 32 → 1 * 2 ^ j % 4294967296 ≡ 2 ^ j
+pub one-shifted : {w : ℕ} (j : ℕ) → j < w → 1 * 2 ^ j % 2 ^ w ≡ 2 ^ j
 one-shifted j h = rw one-mul (mod-eq-of-lt (pow-lt h))
 
 pub clear-beyond : (row j : ℕ) → row < 2 ^ 32 → 32 ≤ j → clearBit row j ≡ row

@@ -11,7 +11,7 @@ use lib.Seq.{length-take-le, take-all, take-nil, take-take, take-add, drop-drop,
 use lib.Dec.{eqb, leb}
 use borrow.Author.Tests.{le-leb, lt-leb, leb-true, eqb-true}
 use Rattle.layout.specs.Bytes.{bytesAt, patch, writeAt, allZero}
-use Rattle.layout.proofs.BooleanLaws.{and-left, and-right}
+use Rattle.layout.proofs.BooleanLaws.{and-left, and-right, and-both, tests-agree}
 use Rattle.layout.proofs.RangeLaws.{range-fails}
 
 -- ---- lengths
@@ -205,3 +205,20 @@ pub replicate-zero : (n : ℕ) → allZero (replicate n 0) ≡ true
 unfolding allZero
 replicate-zero zero = refl
 replicate-zero (suc n) = replicate-zero n
+
+module _ (b : List ℕ) (at : ℕ) where
+  -- the first bytes of a run of zeros are one
+  pub zero-front : (m n : ℕ) → m ≤ n → allZero (bytesAt b at n) ≡ true → allZero (bytesAt b at m) ≡ true
+  zero-front m n h e =
+      let s : m + (n - m) ≡ n = omega arith in
+      and-left (allZero (bytesAt b at m)) (allZero (bytesAt b (at + m) (n - m)))
+      (sym (zero-join b at m (n - m)) ∙ ap (λ (k : ℕ). allZero (bytesAt b at k)) s ∙ e)
+
+  -- two runs that may overlap are one: the second begins within the first or right behind it and does not end before it
+  pub zero-cover : (m o n : ℕ) → o ≤ m → m ≤ o + n → (allZero (bytesAt b at m) && allZero (bytesAt b (at + o) n)) ≡ allZero (bytesAt b at (o + n))
+  zero-cover m o n h l =
+      let first : Bool = allZero (bytesAt b at m) in
+      let second : Bool = allZero (bytesAt b (at + o) n) in
+      tests-agree (first && second) (allZero (bytesAt b at (o + n)))
+      (λ e. zero-join b at o n ∙ and-both (zero-front o m h (and-left first second e)) (and-right first second e))
+      (λ e. and-both (zero-front m (o + n) l e) (and-right (allZero (bytesAt b at o)) second (sym (zero-join b at o n) ∙ e)))

@@ -28,6 +28,11 @@ flatten-pieces [] at b = sym (bytesAt-none b at)
 flatten-pieces (z ∷ zs) at b =
     ap (λ (l : List ℕ). bytesAt b at z ++ l) (flatten-pieces zs (at + z) b) ∙ sym (bytesAt-join b at z (sum _+_ 0 zs))
 
+pub length-pieces : (zs : List ℕ) (at : ℕ) (b : List ℕ) → length (pieces zs at b) ≡ length zs
+unfolding pieces
+length-pieces [] at b = refl
+length-pieces (z ∷ zs) at b = ap suc (length-pieces zs (at + z) b)
+
 pub sizes-pieces : (zs : List ℕ) (at : ℕ) (b : List ℕ) → at + sum _+_ 0 zs ≤ length b → map length (pieces zs at b) ≡ zs
 unfolding pieces sum
 sizes-pieces [] at b h = refl

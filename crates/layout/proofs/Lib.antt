@@ -4,6 +4,7 @@ pub mod ByteLaws
 pub mod ConcatenationLaws
 pub mod NumberLaws
 pub mod RunLaws
+pub mod WordLaws
 pub mod StringFieldLaws
 pub mod TableLaws
 pub mod BitLaws

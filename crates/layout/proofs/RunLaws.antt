@@ -12,11 +12,11 @@ use borrow.Author.Tests.{eq-eqb, ne-eqb}
 use borrow.Rule.Slice.PartAt.{part-to-end}
 use borrow.Rule.Slice.PartMut.{putMid, post-is}
 use Rattle.layout.specs.Bytes.{bytesAt, patch, writeAt, allZero}
-use Rattle.layout.proofs.ByteLaws.{length-bytesAt, bytesAt-none, bytesAt-end, bytesAt-cons, bytesAt-join, patch-snoc, write-within}
+use Rattle.layout.proofs.ByteLaws.{length-bytesAt, bytesAt-none, bytesAt-end, bytesAt-cons, bytesAt-join, patch-snoc, write-within, zero-join}
 
 -- ---- gathering
 
-zero-both : (a x y : ℕ) → (x ≡ 0 → y ≡ 0 → a ≡ 0) → (a ≡ 0 → (x ≡ 0) × (y ≡ 0)) → eqb a 0 ≡ (eqb x 0 && eqb y 0)
+pub zero-both : (a x y : ℕ) → (x ≡ 0 → y ≡ 0 → a ≡ 0) → (a ≡ 0 → (x ≡ 0) × (y ≡ 0)) → eqb a 0 ≡ (eqb x 0 && eqb y 0)
 zero-both a zero zero f g = eq-eqb a 0 (f refl refl)
 zero-both a zero (suc y) f g = ne-eqb a 0 (λ e. let h = g e .1 in omega arith) ∙ sym (ne-eqb (suc y) 0 (λ e. omega arith))
 zero-both a (suc x) y f g = ne-eqb a 0 (λ e. let h = g e .0 in omega arith) ∙ sym (ap (λ (t : Bool). t && eqb y 0) (ne-eqb (suc x) 0 (λ e. omega arith)))
@@ -29,18 +29,26 @@ or-zero x y =
     let r = and-le-r x y in
     zero-both (bitOr x y) x y (λ p q. omega arith) (λ e. (omega arith, omega arith))
 
+pub or-both : (x y : ℕ) {s t : Bool} → eqb x 0 ≡ s → eqb y 0 ≡ t → eqb (bitOr x y) 0 ≡ (s && t)
+or-both x y e f = or-zero x y ∙ ap₂ (λ (s t : Bool). s && t) e f
+
+-- a byte of a run
+pub byte-zero : (b : List ℕ) (i : ℕ) → i < length b → eqb (getD b i 0) 0 ≡ allZero (bytesAt b i 1)
+unfolding allZero
+byte-zero b i h =
+    sym (ap allZero (bytesAt-cons b i 0 h ∙ ap (λ (x : List ℕ). getD b i 0 ∷ x) (bytesAt-none b (i + 1))) ∙ and-true (eqb (getD b i 0) 0))
+
 -- what is gathered, and what is left up to `end`
 module _ (b : List ℕ) (i end gathered : ℕ) where
-  pub gather-next : i < end → end ≤ length b
-      → (eqb (bitOr gathered (getD b i 0)) 0 && allZero (bytesAt b (i + 1) (end - (i + 1)))) ≡ (eqb gathered 0 && allZero (bytesAt b i (end - i)))
-  unfolding allZero
-  gather-next h l =
-      let d : end - i ≡ suc (end - (i + 1)) = omega arith in
-      let rest : List ℕ = bytesAt b (i + 1) (end - (i + 1)) in
-      let next : bytesAt b i (end - i) ≡ getD b i 0 ∷ rest = ap (bytesAt b i) d ∙ bytesAt-cons b i (end - (i + 1)) (omega arith) in
-      ap (λ (t : Bool). t && allZero rest) (or-zero gathered (getD b i 0))
-      ∙ and-assoc (eqb gathered 0) (eqb (getD b i 0) 0) (allZero rest)
-      ∙ ap (λ (x : List ℕ). eqb gathered 0 && allZero x) (sym next)
+  -- w is zero when the next k bytes are
+  pub gather-next : (k w : ℕ) → k ≤ end - i → eqb w 0 ≡ allZero (bytesAt b i k)
+      → (eqb (bitOr gathered w) 0 && allZero (bytesAt b (i + k) (end - (i + k)))) ≡ (eqb gathered 0 && allZero (bytesAt b i (end - i)))
+  gather-next k w h e =
+      let left : ℕ = end - (i + k) in
+      let d : k + left ≡ end - i = omega arith in
+      ap (λ (t : Bool). t && allZero (bytesAt b (i + k) left)) (or-both gathered w refl e)
+      ∙ and-assoc (eqb gathered 0) (allZero (bytesAt b i k)) (allZero (bytesAt b (i + k) left))
+      ∙ ap (λ (t : Bool). eqb gathered 0 && t) (sym (zero-join b i k left) ∙ ap (λ (n : ℕ). allZero (bytesAt b i n)) d)
 
   pub gather-end : end ≤ i → eqb gathered 0 ≡ (eqb gathered 0 && allZero (bytesAt b i (end - i)))
   unfolding allZero

@@ -143,7 +143,7 @@ field-cut b at limit h =
 
 -- one that is there, its stated length n
 module _ (b : List ℕ) (at limit n : ℕ) (h : at + (2 + limit) ≤ length b) (e : n ≡ fromLeBytes (bytesAt b at 2)) where
-  stated-at : statedLength (bytesAt b at (2 + limit)) ≡ n
+  pub stated-at : statedLength (bytesAt b at (2 + limit)) ≡ n
   unfolding statedLength
   stated-at = ap fromLeBytes (take-bytesAt b at 2 (2 + limit) (omega arith)) ∙ sym e
 

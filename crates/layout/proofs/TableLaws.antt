@@ -1,6 +1,6 @@
 -- Laws of tables: their numbers, the search for one, and the removal of a record.
 use Prim.Native.Nat.{ℕ, zero, suc, _+_, _-_, _*_, _≤_, _<_, zero-le}
-use native.Mathlib.Nat.{add-zero, zero-add, add-mul, zero-mul, suc-mul, sub-self, le-of-lt, le-of-suc-le-suc, not-suc-le-zero}
+use native.Mathlib.Nat.{add-zero, zero-add, suc-add, add-mul, zero-mul, suc-mul, sub-self, le-of-lt, le-of-suc-le-suc, not-suc-le-zero}
 use native.Mathlib.Numerals.{add-one}
 use native.Mathlib.Omega.{arith}
 use mathlib.Core.Path.{_≡_, refl, sym, ap, ap₂, _∙_}
@@ -32,6 +32,17 @@ number-at b at size (suc n) zero h = ap (λ (k : ℕ). fromLeBytes (bytesAt b k 
 number-at b at size (suc n) (suc i) h =
     let e : at + size + i * size ≡ at + suc i * size = rw suc-mul (omega arith) in
     number-at b (at + size) size n i (le-of-suc-le-suc h) ∙ ap (λ (k : ℕ). fromLeBytes (bytesAt b k 4)) e
+
+-- the numbers of m records and those of the n records behind them
+pub numbers-join : (b : List ℕ) (at size m n : ℕ)
+    → recordNumbers b at size (m + n) ≡ recordNumbers b at size m ++ recordNumbers b (at + m * size) size n
+unfolding recordNumbers
+numbers-join b at size zero n = rw (zero-add, zero-mul, add-zero)
+numbers-join b at size (suc m) n =
+    let e : at + size + m * size ≡ at + suc m * size = rw suc-mul (omega arith) in
+    ap (recordNumbers b at size) (suc-add m n)
+    ∙ ap (λ (xs : List ℕ). fromLeBytes (bytesAt b at 4) ∷ xs)
+    (numbers-join b (at + size) size m n ∙ ap (λ (o : ℕ). recordNumbers b (at + size) size m ++ recordNumbers b o size n) e)
 
 -- the numbers of the first n records of a table are those of the records
 pub numbers-flatten : (b : List ℕ) (base size c : ℕ) (rs : List (List ℕ)) → 4 ≤ size → bytesAt b base (c * size) ≡ flatten rs

@@ -1,7 +1,8 @@
 // Little-endian numbers of 2, 4 and 8 bytes, read and written.
 ghost use mathlib.Core.Path.{_≡_};
-ghost use Prim.Native.Nat.{_+_, _≤_};
+ghost use Prim.Native.Nat.{_+_, _^_, _≤_};
 ghost use lib.ListN.{length};
+ghost use lib.Dec.{ltb};
 ghost use Rattle.layout.specs.Bytes.{bytesAt, writeAt};
 ghost use Rattle.layout.specs.Numbers.{toLeBytes, fromLeBytes};
 use crate::range::within;
@@ -26,6 +27,16 @@ pub fn read_u64(b: &[u8], at: usize) -> u64
     ensures { λ r. ⌜ r ≡ fromLeBytes (bytesAt (now (b .entry)) at 8) ⌝ }
 {
     read_u32(b, at) as u64 + read_u32(b, at + 4) as u64 * 4294967296
+}
+
+// Whether a number has room in so many bytes.
+pub fn fits_width(x: u64, width: usize) -> bool
+    ensures { λ r. ⌜ r ≡ ltb x (256 ^ width) ⌝ }
+{
+    if 8 < width {
+        return true;
+    }
+    64 <= u64::leading_zeros(x) as usize + 8 * width
 }
 
 // A number of any width written, the lowest byte first; where it would reach past the end, nothing changes.

@@ -1,6 +1,6 @@
-// Ranges of places.
+// Places and ranges of them.
 ghost use mathlib.Core.Path.{_≡_};
-ghost use Prim.Native.Nat.{_+_};
+ghost use Prim.Native.Nat.{_+_, min};
 ghost use lib.Dec.{leb};
 
 // Whether n bytes from a place on lie within a length.
@@ -14,4 +14,14 @@ pub fn within(len: usize, at: usize, n: usize) -> bool
         return false;
     }
     true
+}
+
+// The lesser of two places.
+pub fn lesser(x: usize, y: usize) -> usize
+    ensures { λ r. ⌜ r ≡ min x y ⌝ }
+{
+    if x < y {
+        return x;
+    }
+    y
 }

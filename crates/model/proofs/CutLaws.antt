@@ -4,17 +4,19 @@ use native.Mathlib.Nat.{add-assoc, add-zero, zero-add, zero-mul, suc-mul, not-su
 use native.Mathlib.Omega.{arith}
 use mathlib.Core.Path.{_≡_, refl, sym, ap, ap₂, _∙_}
 use mathlib.Core.List.{List, [], _∷_, map, flatten, sum}
-use lib.ListN.{length, take, drop, getD, set, replicate, List·getD-map}
+use lib.ListN.{length, take, drop, getD, set, replicate, length-replicate, List·getD-map}
 use lib.Dec.{lit<}
 use Rattle.layout.specs.Bytes.{bytesAt, patch, allZero, offset, pieces}
 use Rattle.layout.proofs.ByteLaws.{zero-join, bytesAt-none, bytesAt-bytesAt, bytesAt-all, length-bytesAt}
-use Rattle.layout.proofs.ConcatenationLaws.{length-flatten, flatten-pieces, sizes-pieces, pieces-flatten, bytesAt-flatten, patch-flatten, sum-replicate, take-replicate, offset-replicate}
+use Rattle.layout.proofs.ConcatenationLaws.{length-flatten, flatten-pieces, sizes-pieces, pieces-flatten, bytesAt-flatten, patch-flatten, length-pieces, sum-replicate, take-replicate, offset-replicate}
 use Rattle.layout.specs.Numbers.{fromLeBytes}
+use Rattle.layout.specs.Tables.{recordNumbers}
 use Rattle.reader.specs.Fields.{numberIn}
 use mathlib.Core.Bool.{Bool, _&&_}
-use Rattle.model.specs.Lists.{forAll}
+use Rattle.model.specs.Lists.{forAll, allBelow}
 use Rattle.model.specs.State.{userLimit, postLimit, pendingLimit, noteCount}
 use Rattle.model.proofs.ListLaws.{drop-replicate}
+use Rattle.model.proofs.BelowLaws.{all-below}
 use Rattle.model.specs.Board.{boardSize, BoardRecords, cutBoard, joinRecords}
 
 -- every record has its size
@@ -168,3 +170,25 @@ module _ (b : List ℕ) (size : ℕ) where
       let e : size + n * size ≡ suc n * size = let m = suc-mul n size in omega arith in
       ap (λ (t : Bool). allZero (bytesAt b o size) && t) (zero-pieces n (o + size))
       ∙ sym (zero-join b o size (n * size)) ∙ ap (λ (m : ℕ). allZero (bytesAt b o m)) e
+
+  pub length-records : (n o : ℕ) → length (pieces (replicate n size) o b) ≡ n
+  length-records n o = length-pieces (replicate n size) o b ∙ length-replicate n size
+
+  -- a test of each record is one at each place
+  pub table-below : (p : List ℕ → Bool) (n o : ℕ)
+      → forAll p (pieces (replicate n size) o b) ≡ allBelow n (λ (i : ℕ). p (bytesAt b (o + i * size) size))
+  table-below p n o =
+      all-below p (pieces (replicate n size) o b) [] (λ (i : ℕ). bytesAt b (o + i * size) size) (length-records n o) (λ i h. piece-at n o i h)
+
+  pub zero-records : (n o : ℕ) → allBelow n (λ (i : ℕ). allZero (bytesAt b (o + i * size) size)) ≡ allZero (bytesAt b o (n * size))
+  zero-records n o = sym (table-below allZero n o) ∙ zero-pieces n o
+
+  -- the numbers of records are their first fields
+  pub table-numbers : {A : Type 0} (decodeRecord : List ℕ → A) (number : A → ℕ) → ((r : List ℕ) → number (decodeRecord r) ≡ numberIn r 0 4) → 4 ≤ size
+      → (n o : ℕ) → recordNumbers b o size n ≡ map number (map decodeRecord (pieces (replicate n size) o b))
+  unfolding pieces recordNumbers
+  table-numbers decodeRecord number e h zero o = refl
+  table-numbers decodeRecord number e h (suc n) o =
+      ap₂ (λ (x : ℕ) (xs : List ℕ). x ∷ xs)
+      (sym (e (bytesAt b o size) ∙ ap fromLeBytes (bytesAt-bytesAt b o size 0 4 h) ∙ ap (λ (k : ℕ). numberIn b k 4) (add-zero o)))
+      (table-numbers decodeRecord number e h n (o + size))

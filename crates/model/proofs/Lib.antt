@@ -1,6 +1,7 @@
 pub mod StateRules
 pub mod FieldUpdates
 pub mod ListLaws
+pub mod BelowLaws
 pub mod RecordLaws
 pub mod TableRecordLaws
 pub mod RecordTheorems

@@ -6,14 +6,15 @@ use native.Mathlib.Omega.{arith}
 use mathlib.Core.Path.{_≡_, refl, sym, ap, ap₂, _∙_}
 use mathlib.Core.Logic.{_⊎_, inl, inr}
 use mathlib.Core.List.{List, [], _∷_, _++_, map, map-append}
-use mathlib.Core.Bool.{Bool, true, false, not, _&&_, _||_, and-assoc, and-false, or-assoc, true≢false, or-true}
-use lib.ListN.{length, take, drop, getD, set, replicate, List·getD-map}
-use lib.Seq.{map-set-same}
-use lib.Dec.{eqb, ltb, leb·zero, leb·suc-suc}
-use borrow.Author.Tests.{ltb-true, eqb-true, eqb-false, ne-eqb, not-true, eq-eqb}
+use mathlib.Core.Bool.{Bool, true, false, not, _&&_, _||_, and-assoc, or-assoc, true≢false, or-true}
+use lib.ListN.{length, take, drop, getD, set, replicate, length-append, List·getD-map, List·getD-append}
+use lib.Seq.{map-set-same, getD-append-seam}
+use lib.Dec.{eqb, ltb, leb·zero, leb·suc-suc, eqb·suc-zero}
+use borrow.Table.Steps.{cases}
+use borrow.Author.Tests.{ltb-true, ltb-false, eqb-true, eqb-false, ne-eqb, not-true, eq-eqb}
 use Rattle.bytes.specs.Bytes.{indexOf, indexAfter}
-use Rattle.layout.proofs.BooleanLaws.{and-left, and-right, and-both, or-neither}
-use Rattle.layout.proofs.TableLaws.{map-take, index-found}
+use Rattle.layout.proofs.BooleanLaws.{and-left, and-right, and-both, and-exchange, or-neither, refuted}
+use Rattle.layout.proofs.TableLaws.{map-take, index-found, index-le}
 use Rattle.model.specs.Lists.{forAll, allTrue, allBelow, contains, distinct, removeAt}
 
 -- ---- every element passes
@@ -81,16 +82,16 @@ unfolding forAll
 all-weaken p q f [] e = refl
 all-weaken p q f (x ∷ xs) e = and-both (f x (and-left (p x) (forAll p xs) e)) (all-weaken p q f xs (and-right (p x) (forAll p xs) e))
 
+-- a test that agrees with another
+pub all-same : {A : Type 0} (p q : A → Bool) → ((x : A) → p x ≡ q x) → (xs : List A) → forAll p xs ≡ forAll q xs
+all-same p q e xs = λ i. forAll (λ x. e x i) xs
+
 -- two tests are one
 pub all-both : {A : Type 0} (p q : A → Bool) (xs : List A) → (forAll p xs && forAll q xs) ≡ forAll (λ (x : A). p x && q x) xs
 unfolding forAll
 all-both p q [] = refl
-all-both p q (x ∷ xs) = regroup (p x) (q x) ∙ ap (λ (t : Bool). p x && q x && t) (all-both p q xs)
-  where
-    regroup : (a b : Bool) → (a && forAll p xs && (b && forAll q xs)) ≡ (a && b && (forAll p xs && forAll q xs))
-    regroup true true = refl
-    regroup true false = and-false (forAll p xs)
-    regroup false b = refl
+all-both p q (x ∷ xs) =
+    and-exchange (p x) (forAll p xs) (q x) (forAll q xs) ∙ ap (λ (t : Bool). p x && q x && t) (all-both p q xs)
 
 pub all-and : {A : Type 0} (p q : A → Bool) (xs : List A) → forAll p xs ≡ true → forAll q xs ≡ true → forAll (λ (x : A). p x && q x) xs ≡ true
 all-and p q xs e f = sym (all-both p q xs) ∙ and-both e f
@@ -237,6 +238,27 @@ module _ (x : ℕ) where
   absent-remove zero (y ∷ ys) e = absent-cons y ys e .1
   absent-remove (suc i) (y ∷ ys) e = let a = absent-cons y ys e in cons-absent y (removeAt i ys) (a .0) (absent-remove i ys (a .1))
 
+-- a search in a list of n numbers finds no place for it
+pub absent-by-search : (x : ℕ) (xs : List ℕ) {n : ℕ} → length xs ≡ n → eqb (indexOf x xs) n ≡ not (contains x xs)
+unfolding contains
+absent-by-search x xs {n} q =
+    cases (ltb (indexOf x xs) (length xs))
+    (λ e. let h = ltb-true (indexOf x xs) (length xs) e in ne-eqb (indexOf x xs) n (λ f. omega arith) ∙ ap not (sym e))
+    (λ e.
+    let h = ltb-false (indexOf x xs) (length xs) e in
+    let l = index-le x xs in
+    eq-eqb (indexOf x xs) n (omega arith) ∙ ap not (sym e))
+
+-- 0 is not in a list exactly if every number of it is above 0
+pub zero-absent : (xs : List ℕ) → not (contains 0 xs) ≡ forAll (ltb 0) xs
+unfolding forAll contains indexOf
+zero-absent [] = refl
+zero-absent (x ∷ xs) = ap not (contains-cons 0 x xs) ∙ first x ∙ ap (λ (t : Bool). ltb 0 x && t) (zero-absent xs)
+  where
+    first : (x : ℕ) → not (eqb x 0 || contains 0 xs) ≡ (ltb 0 x && not (contains 0 xs))
+    first zero = refl
+    first (suc x) = rw (eqb·suc-zero x, leb·suc-suc 0 x, leb·zero x)
+
 -- where no number of ks is in xs, none is in xs with a further number
 pub none-in-add : (xs ks : List ℕ) (x : ℕ) → forAll (λ (k : ℕ). not (contains k xs)) ks ≡ true → contains x ks ≡ false
     → forAll (λ (k : ℕ). not (contains k (xs ++ (x ∷ [])))) ks ≡ true
@@ -270,7 +292,17 @@ distinct-places (x ∷ xs) d zero (suc j) h l e =
 distinct-places (x ∷ xs) d (suc i) (suc j) h l e =
     distinct-places xs (distinct-tail x xs d) i j (le-of-suc-le-suc h) (le-of-suc-le-suc l) e
 
--- so each is found at its place
+-- so none stands twice
+pub repeated : (xs : List ℕ) (x : ℕ) (ys : List ℕ) → contains x xs ≡ true → distinct (xs ++ (x ∷ ys)) ≡ false
+unfolding contains
+repeated xs x ys c =
+    let h = ltb-true (indexOf x xs) (length xs) c in
+    let l = length-append xs (x ∷ ys) in
+    refuted (distinct (xs ++ (x ∷ ys))) (λ d.
+    distinct-places (xs ++ (x ∷ ys)) d (indexOf x xs) (length xs) h (omega arith)
+    (List·getD-append xs (x ∷ ys) 0 (indexOf x xs) h ∙ contained-found x xs c ∙ sym (getD-append-seam xs x ys 0)))
+
+-- and each is found at its place
 pub distinct-index : (xs : List ℕ) → distinct xs ≡ true → (i : ℕ) → i < length xs → indexOf (getD xs i 0) xs ≡ i
 unfolding indexOf indexAfter
 distinct-index [] d i h = absurd (not-suc-le-zero h)

@@ -111,6 +111,18 @@ cut-bytes b y l = record {
       (record-pieces b 26 noteCount 23824 y (omega arith));
 }
 
+-- what the clause about counts says
+pub within-limits : (r : BoardRecords) → countsWithinLimits r ≡ true
+    → (userCount r ≤ userLimit) × (postCount r ≤ postLimit) × (pendingCount r ≤ pendingLimit)
+unfolding countsWithinLimits
+within-limits r e =
+    let limits : List Bool = leb (userCount r) userLimit ∷ leb (postCount r) postLimit ∷ leb (pendingCount r) pendingLimit ∷ [] in
+    let holds : (i : ℕ) → i < 3 → getD limits i true ≡ true = λ i l. true-at limits i e l in (
+      leb-true (userCount r) userLimit (holds 0 (lit< tt)),
+      leb-true (postCount r) postLimit (holds 1 (lit< tt)),
+      leb-true (pendingCount r) pendingLimit (holds 2 (lit< tt)),
+    )
+
 -- what the clauses about bytes say
 pub record RecordsHold (r : BoardRecords) : Type 0 where
   pub counts : countsWithinLimits r ≡ true
@@ -127,13 +139,6 @@ good-used size n fs test implies rs g t =
     (all-weaken test (λ r. holdsFields fs r 0) implies (take n rs) t)
 
 module _ (r : BoardRecords) (g : ByteRecords r) (h : RecordsHold r) where
-  limits : List Bool
-  limits = leb (userCount r) userLimit ∷ leb (postCount r) postLimit ∷ leb (pendingCount r) pendingLimit ∷ []
-
-  limit-holds : (i : ℕ) → i < 3 → getD limits i true ≡ true
-  unfolding countsWithinLimits limits
-  limit-holds i l = true-at limits i (h .counts) l
-
   zeros : List Bool
   zeros =
       forAll allZero (drop (userCount r) (r .users)) ∷ forAll allZero (drop (postCount r) (r .posts))
@@ -153,19 +158,19 @@ module _ (r : BoardRecords) (g : ByteRecords r) (h : RecordsHold r) where
   string-holds i l = true-at strings i (h .strings) l
 
   good-users : GoodTable userCodec userLimit (userCount r) (r .users)
-  unfolding goodUser limits zeros strings
+  unfolding goodUser zeros strings
   good-users = record {
     sizes = g .sizes .users;
-    count = leb-true (userCount r) userLimit (limit-holds 0 (lit< tt));
+    count = within-limits r (h .counts) .0;
     used = good-used 104 (userCount r) (userFields noUser) userStrings user-holds (r .users) (g .users) (string-holds 0 (lit< tt));
     unused = zeros-hold 0 (lit< tt);
   }
 
   good-posts : GoodTable postCodec postLimit (postCount r) (r .posts)
-  unfolding goodPost limits zeros strings
+  unfolding goodPost zeros strings
   good-posts = record {
     sizes = g .sizes .posts;
-    count = leb-true (postCount r) postLimit (limit-holds 1 (lit< tt));
+    count = within-limits r (h .counts) .1;
     used = good-used 312 (postCount r) (postFields noPost) postStrings post-holds (r .posts) (g .posts) (string-holds 1 (lit< tt));
     unused = zeros-hold 1 (lit< tt);
   }
@@ -179,10 +184,10 @@ module _ (r : BoardRecords) (g : ByteRecords r) (h : RecordsHold r) where
       (and-left a b (h .filler), and-right a b (h .filler))
 
   good-pending : GoodTable pendingCodec pendingLimit (pendingCount r) (r .pending)
-  unfolding goodPending limits zeros strings
+  unfolding goodPending zeros strings
   good-pending = record {
     sizes = g .sizes .pending;
-    count = leb-true (pendingCount r) pendingLimit (limit-holds 2 (lit< tt));
+    count = within-limits r (h .counts) .2;
     used =
         good-used 32 (pendingCount r) (pendingFields noPending) (λ p. pendingStrings p && allZero (bytesAt p 30 2)) pending-holds
         (r .pending) (g .pending)

@@ -1,10 +1,10 @@
 -- A board is sound exactly if it is the board of a state that fits and keeps the rules.
 use Prim.Native.Nat.{ℕ, _<_}
 use native.Mathlib.Omega.{arith}
-use mathlib.Core.Path.{_≡_, refl, sym, ap, ap₂, _∙_}
+use mathlib.Core.Path.{_≡_, refl, sym, ap, _∙_}
 use mathlib.Core.Logic.{_↔_}
-use mathlib.Core.List.{List, [], _∷_, _++_, map}
-use mathlib.Core.Bool.{Bool, true, false, _&&_, _||_, not}
+use mathlib.Core.List.{List}
+use mathlib.Core.Bool.{Bool, true, false, _&&_, _||_, not, and-assoc, and-true}
 use lib.ListN.{length, getD, replicate}
 use lib.Dec.{eqb, lit<}
 use lib.Pow.{areBytes}
@@ -18,7 +18,7 @@ use Rattle.model.specs.State.{State, emptyState}
 use Rattle.model.specs.Board.{boardSize, BoardRecords, cutBoard, joinRecords, recordsOf, userCount, encode, decode, emptyBoard}
 use Rattle.model.specs.Soundness.{countsWithinLimits, recordClauses, stateClauses, zeroWithoutUsers, clauseResults, isSound}
 use Rattle.model.proofs.StateRules.{stateFits, nothingWithoutUsers, keepsRules}
-use Rattle.model.proofs.ListLaws.{all-at, all-append, all-map}
+use Rattle.model.proofs.ListLaws.{all-at}
 use Rattle.model.proofs.CutLaws.{join-cut}
 use Rattle.model.proofs.BoardTheorems.{Encodes, FittingState, fitting, fits-state, user-count, length-encode, cut-encode, decode-encode}
 use Rattle.model.proofs.SoundnessLaws.{counts-hold, unused-hold, strings-hold, filler-hold, RecordsHold, cut-bytes, records-state, state-fits}
@@ -42,15 +42,7 @@ module _ (b : List ℕ) where
       && (forAll (λ (clause : BoardRecords → Bool). clause (cutBoard b)) recordClauses
       && (forAll (λ (clause : State → Bool). clause (decode b)) stateClauses && (zeroWithoutUsers b && true))))
   unfolding isSound clauseResults allTrue forAll
-  sound-chain =
-      let id : Bool → Bool = λ t. t in
-      let rs : List Bool = map (λ (clause : BoardRecords → Bool). clause (cutBoard b)) recordClauses in
-      let ss : List Bool = map (λ (clause : State → Bool). clause (decode b)) stateClauses in
-      ap (λ (t : Bool). eqb (length b) boardSize && t)
-      (all-append id rs (ss ++ (zeroWithoutUsers b ∷ []))
-      ∙ ap₂ (λ (t u : Bool). t && u) (all-map id (λ (clause : BoardRecords → Bool). clause (cutBoard b)) recordClauses)
-      (all-append id ss (zeroWithoutUsers b ∷ [])
-      ∙ ap (λ (t : Bool). t && (zeroWithoutUsers b && true)) (all-map id (λ (clause : State → Bool). clause (decode b)) stateClauses)))
+  sound-chain = simp (and-assoc, and-true)
 
   pub record SoundParts : Type 0 where
     pub length-part : length b ≡ boardSize

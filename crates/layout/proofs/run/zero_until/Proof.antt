@@ -3,10 +3,10 @@ use Prim.Native.Nat.{_-_, _≤_}
 use native.Mathlib.Omega.{arith}
 use mathlib.Core.Bool.{_&&_}
 use mathlib.Core.Path.{_≡_, refl, _∙_}
-use lib.ListN.{length}
+use lib.ListN.{length, getD}
 use lib.Dec.{eqb}
 use Rattle.layout.specs.Bytes.{bytesAt, allZero}
-use Rattle.layout.proofs.RunLaws.{gather-next, gather-end}
+use Rattle.layout.proofs.RunLaws.{byte-zero, gather-next, gather-end}
 use Rattle.layout.proofs.run.zero_until.Statement.{statement}
 use Rattle.layout.proofs.run.zero_until.Tie as tie
 
@@ -33,7 +33,8 @@ loop-again : tie.Need-loop-again Inv-loop μ-loop
 loop-again c =
     let l = c .before .before .loop in
     let a = c .before .before .before .args in
-    (omega arith, gather-next (a .b .now) (l .i) (a .end) (l .gathered) (omega arith) (omega arith) ∙ l .inv .1)
+    let byte = byte-zero (a .b .now) (l .i) (omega arith) in
+    (omega arith, gather-next (a .b .now) (l .i) (a .end) (l .gathered) 1 (getD (a .b .now) (l .i) 0) (omega arith) byte ∙ l .inv .1)
 
 returns : tie.Need-returns Inv-loop μ-loop
 returns c =

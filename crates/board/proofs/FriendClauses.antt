@@ -1,0 +1,110 @@
+-- The clauses about friend rows and request rows, read off the bytes: each is a test of the rows of each slot.
+use Prim.Native.Nat.{ℕ, _+_, _*_, _/_, _^_, _<_}
+use native.Mathlib.Nat.{div-eq-of-lt, div-lt-iff-lt-mul}
+use native.Mathlib.Numerals.{add-one}
+use native.Mathlib.Omega.{arith}
+use mathlib.Core.Path.{_≡_, refl, sym, ap, ap₂, _∙_}
+use mathlib.Core.List.{List}
+use mathlib.Core.Bool.{Bool, true, not, _&&_}
+use lib.ListN.{length}
+use lib.Dec.{eqb, ltb}
+use lib.Bits.{bitOr, bitXor, xor-self, xor-add-and, and-le-l, and-le-r}
+use lib.Pow.{pow-pos}
+use borrow.Author.Tests.{ltb-true, lt-ltb, eqb-true, eq-eqb}
+use Rattle.layout.specs.Bits.{bitAt, hasBit}
+use Rattle.layout.proofs.BooleanLaws.{tests-agree}
+use Rattle.layout.proofs.RunLaws.{or-zero}
+use Rattle.model.specs.Lists.{forAll, allBelow}
+use Rattle.model.specs.State.{User, noUser, userAt}
+use Rattle.model.specs.Board.{cutBoard, userCount, decode}
+use Rattle.model.specs.Soundness.{friendsSymmetric, noOwnBit, bitsBelowCount}
+use Rattle.model.proofs.BelowLaws.{below-same, half-of-pairs, all-below}
+use Rattle.board.specs.BoardTests.{BoardWithinLimits, friendRow, requestRow, symmetricAt}
+use Rattle.board.proofs.RecordPlaces.{count-users, friends-at, requests-at}
+
+-- ---- bits
+
+-- a xor is zero when its parts are the same
+xor-zero : (x y : ℕ) → eqb (bitXor x y) 0 ≡ eqb x y
+xor-zero x y =
+    tests-agree (eqb (bitXor x y) 0) (eqb x y)
+    (λ e.
+    let z = eqb-true (bitXor x y) 0 e in
+    let s = xor-add-and x y in
+    let l = and-le-l x y in
+    let r = and-le-r x y in
+    eq-eqb x y (omega arith))
+    (λ e. eq-eqb (bitXor x y) 0 (ap (bitXor x) (sym (eqb-true x y e)) ∙ xor-self x))
+
+-- a row is below 2 ^ n exactly if nothing is left of it after a shift by n
+below-power : (x n : ℕ) → ltb x (2 ^ n) ≡ eqb (x / 2 ^ n) 0
+below-power x n =
+    tests-agree (ltb x (2 ^ n)) (eqb (x / 2 ^ n) 0) (λ e. eq-eqb (x / 2 ^ n) 0 (div-eq-of-lt (ltb-true x (2 ^ n) e)))
+    (λ e.
+    let z = eqb-true (x / 2 ^ n) 0 e in
+    let h : x < 1 * 2 ^ n = div-lt-iff-lt-mul (pow-pos n) .0 (omega arith) in
+    lt-ltb x (2 ^ n) (omega arith))
+
+-- ---- symmetric rows
+
+-- a loop that gathers the bits that differ: x and y are bit j of row i and bit i of row j
+pub gather-bits : (b : List ℕ) (i j differing : ℕ) {x y : ℕ} → x ≡ bitAt (friendRow b i) j → y ≡ bitAt (friendRow b j) i
+    → eqb differing 0 ≡ allBelow j (symmetricAt b i) → eqb (bitOr differing (bitXor x y)) 0 ≡ allBelow (j + 1) (symmetricAt b i)
+unfolding allBelow symmetricAt
+gather-bits b i j differing {x} {y} p q e =
+    or-zero differing (bitXor x y) ∙ ap₂ _&&_ e (xor-zero x y ∙ ap₂ eqb p q)
+    ∙ ap (λ (k : ℕ). allBelow k (symmetricAt b i)) (sym (add-one j))
+
+-- ---- the clauses
+
+-- slot i is a friend of each slot before it exactly if that one is a friend of slot i
+abbrev pub symmetricBelow : List ℕ → ℕ → Bool
+symmetricBelow b i = allBelow i (symmetricAt b i)
+
+-- the rows of slot i are without bit i, and without the bits from n on
+abbrev pub withoutOwnBit : List ℕ → ℕ → Bool
+withoutOwnBit b i = not (hasBit (friendRow b i) i) && not (hasBit (requestRow b i) i)
+
+abbrev pub withoutBitsFrom : List ℕ → ℕ → ℕ → Bool
+withoutBitsFrom b n i = eqb (friendRow b i / 2 ^ n) 0 && eqb (requestRow b i / 2 ^ n) 0
+
+module _ (b : List ℕ) (counted : BoardWithinLimits b) {n : ℕ} (e : n ≡ userCount (cutBoard b)) where
+  -- half of the pairs are enough
+  pub symmetric-half : friendsSymmetric (decode b) ≡ allBelow n (symmetricBelow b)
+  unfolding friendsSymmetric symmetricAt
+  symmetric-half =
+      let friends = friends-at b counted e in
+      let same : ℕ → ℕ → Bool = λ i j. eqb (bitAt (userAt (decode b) i .friends) j) (bitAt (userAt (decode b) j .friends) i) in
+      ap (λ (k : ℕ). allBelow k (λ (i : ℕ). allBelow k (same i))) (count-users b counted e)
+      ∙ below-same n (λ (i : ℕ). allBelow n (same i)) (λ (i : ℕ). allBelow n (symmetricAt b i))
+      (λ i h. below-same n (same i) (symmetricAt b i) (λ j l. ap₂ (λ (x y : ℕ). eqb (bitAt x j) (bitAt y i)) (friends i h) (friends j l)))
+      ∙ sym (half-of-pairs n (symmetricAt b) swapped (λ i. eq-eqb (bitAt (friendRow b i) i) (bitAt (friendRow b i) i) refl))
+    where
+      swapped : (i j : ℕ) → symmetricAt b i j ≡ true → symmetricAt b j i ≡ true
+      swapped i j t =
+          let x : ℕ = bitAt (friendRow b i) j in
+          let y : ℕ = bitAt (friendRow b j) i in
+          eq-eqb y x (sym (eqb-true x y t))
+
+  -- a test of both rows of each slot, in the state and on the board
+  each-slot : (p : ℕ → ℕ → ℕ → Bool)
+      → allBelow (length (decode b .users)) (λ (i : ℕ). p i (userAt (decode b) i .friends) (userAt (decode b) i .requests))
+      ≡ allBelow n (λ (i : ℕ). p i (friendRow b i) (requestRow b i))
+  each-slot p =
+      let user : ℕ → Bool = λ i. p i (userAt (decode b) i .friends) (userAt (decode b) i .requests) in
+      ap (λ (k : ℕ). allBelow k user) (count-users b counted e)
+      ∙ below-same n user (λ (i : ℕ). p i (friendRow b i) (requestRow b i))
+      (λ i h. ap₂ (p i) (friends-at b counted e i h) (requests-at b counted e i h))
+
+  pub own-bits : noOwnBit (decode b) ≡ allBelow n (withoutOwnBit b)
+  unfolding noOwnBit
+  own-bits = each-slot (λ (i f r : ℕ). not (hasBit f i) && not (hasBit r i))
+
+  pub bits-below : bitsBelowCount (decode b) ≡ allBelow n (withoutBitsFrom b n)
+  unfolding bitsBelowCount userAt
+  bits-below =
+      let below : ℕ → User → Bool = λ k u. ltb (u .friends) (2 ^ k) && ltb (u .requests) (2 ^ k) in
+      ap (λ (k : ℕ). forAll (below k) (decode b .users)) (count-users b counted e)
+      ∙ all-below (below n) (decode b .users) noUser (userAt (decode b)) refl (λ i h. refl)
+      ∙ each-slot (λ (i f r : ℕ). ltb f (2 ^ n) && ltb r (2 ^ n))
+      ∙ (λ t. allBelow n (λ (i : ℕ). below-power (friendRow b i) n t && below-power (requestRow b i) n t))
