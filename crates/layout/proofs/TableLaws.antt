@@ -143,6 +143,10 @@ record-parts size n i h =
     let e : i + 1 + (n - (i + 1)) ≡ n = omega arith in
     (ap (λ (k : ℕ). k * size) (add-one i) ∙ suc-mul i size, sym (add-mul (i + 1) (n - (i + 1)) size) ∙ ap (λ (k : ℕ). k * size) e)
 
+-- and record i lies where the table does
+pub record-within : (base size n i len : ℕ) → i < n → base + n * size ≤ len → base + i * size + size ≤ len
+record-within base size n i len h l = let p = record-parts size n i h in omega arith
+
 -- ---- a removal, within range and beyond it
 
 module _ (b : List ℕ) (base size n i : ℕ) where

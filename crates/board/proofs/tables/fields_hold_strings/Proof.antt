@@ -7,7 +7,7 @@ use Rattle.layout.specs.Bytes.{bytesAt}
 use Rattle.layout.specs.StringFields.{isStringField}
 use Rattle.layout.proofs.BooleanLaws.{test-fails, test-holds}
 use Rattle.layout.proofs.ByteLaws.{bytesAt-bytesAt}
-use Rattle.layout.proofs.TableLaws.{record-parts}
+use Rattle.layout.proofs.TableLaws.{record-within}
 use Rattle.model.specs.Lists.{forAll}
 use Rattle.model.proofs.CutLaws.{table-below}
 use Rattle.board.specs.BoardTests.{recordsAt, holdsString}
@@ -26,10 +26,8 @@ abbrev μ-loop : tie.MeasureT-loop
 inside : (c : tie.In-loop Inv-loop μ-loop) →
     let a = c .before .before .before .args in a .base + c .before .loop .i * a .size + a .size ≤ length (a .b .now)
 inside c =
-    let s = c .before .before .before in
-    let a = s .args in
-    let p = record-parts (a .size) (a .n) (c .before .loop .i) (c .loop-test .taken) in
-    omega (arith, s .pre .1)
+    let entry = c .before .before .before in
+    record-within (entry .args .base) (entry .args .size) (entry .args .n) (c .before .loop .i) _ (c .loop-test .taken) (entry .pre .1)
 
 -- the call tests the field of record i
 field-tested : (c : tie.After-is-string-field Inv-loop μ-loop) →

@@ -9,7 +9,7 @@ use borrow.Author.Tests.{lt-ltb, le-ltb}
 use Rattle.layout.specs.Bytes.{bytesAt}
 use Rattle.layout.specs.Numbers.{fromLeBytes}
 use Rattle.layout.proofs.ByteLaws.{bytesAt-bytesAt}
-use Rattle.layout.proofs.TableLaws.{record-parts}
+use Rattle.layout.proofs.TableLaws.{record-within}
 use Rattle.reader.specs.Fields.{numberIn}
 use Rattle.model.specs.Lists.{forAll}
 use Rattle.model.proofs.CutLaws.{table-below}
@@ -29,10 +29,8 @@ abbrev μ-loop : tie.MeasureT-loop
 inside : (c : tie.In-loop Inv-loop μ-loop) →
     let a = c .before .before .before .args in a .base + c .before .loop .i * a .size + a .size ≤ length (a .b .now)
 inside c =
-    let s = c .before .before .before in
-    let a = s .args in
-    let p = record-parts (a .size) (a .n) (c .before .loop .i) (c .loop-test .taken) in
-    omega (arith, s .pre .1)
+    let entry = c .before .before .before in
+    record-within (entry .args .base) (entry .args .size) (entry .args .n) (c .before .loop .i) _ (c .loop-test .taken) (entry .pre .1)
 
 -- the number of record i
 number-read : (c : tie.After-read-u16 Inv-loop μ-loop) →
