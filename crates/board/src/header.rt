@@ -4,6 +4,9 @@ ghost use Prim.Native.Nat.{_≤_};
 ghost use lib.ListN.{length};
 ghost use Rattle.model.specs.Board.{cutBoard, userCount, postCount, pendingCount};
 ghost use Rattle.model.specs.Soundness.{countsWithinLimits};
+use crate::HEADER_PENDING;
+use crate::HEADER_POSTS;
+use crate::HEADER_USERS;
 use crate::PENDING_LIMIT;
 use crate::POST_LIMIT;
 use crate::USER_LIMIT;
@@ -13,21 +16,21 @@ pub fn user_count(b: &[u8]) -> usize
     requires { ⌜ 16 ≤ length (now b) ⌝ }
     ensures { λ r. ⌜ r ≡ userCount (cutBoard (now (b .entry))) ⌝ }
 {
-    read_u16(b, 0) as usize
+    read_u16(b, HEADER_USERS) as usize
 }
 
 pub fn post_count(b: &[u8]) -> usize
     requires { ⌜ 16 ≤ length (now b) ⌝ }
     ensures { λ r. ⌜ r ≡ postCount (cutBoard (now (b .entry))) ⌝ }
 {
-    read_u16(b, 2) as usize
+    read_u16(b, HEADER_POSTS) as usize
 }
 
 pub fn pending_count(b: &[u8]) -> usize
     requires { ⌜ 16 ≤ length (now b) ⌝ }
     ensures { λ r. ⌜ r ≡ pendingCount (cutBoard (now (b .entry))) ⌝ }
 {
-    read_u16(b, 4) as usize
+    read_u16(b, HEADER_PENDING) as usize
 }
 
 // "its counts are within limits"

@@ -48,7 +48,15 @@ pub const NOTE_SIZE: usize = 26;
 pub const SLOT_NOTES_SIZE: usize = 832;
 
 // The places of fields in the header and within records; the number of a record comes first.
+pub const HEADER_USERS: usize = 0;
+
+pub const HEADER_POSTS: usize = 2;
+
+pub const HEADER_PENDING: usize = 4;
+
 pub const HEADER_FILLER: usize = 6;
+
+pub const USER_PASSWORD: usize = 4;
 
 pub const USER_FRIENDS: usize = 12;
 
@@ -57,6 +65,8 @@ pub const USER_REQUESTS: usize = 16;
 pub const USER_NAME: usize = 20;
 
 pub const USER_INFO: usize = 46;
+
+pub const POST_PICTURE: usize = 4;
 
 pub const POST_OWNER: usize = 8;
 

@@ -1,17 +1,17 @@
 -- Laws of rows of bits: a bit after another one was set or cleared, bounds, and the places of the set bits.
 use Prim.Native.Nat.{ℕ, zero, suc, _+_, _-_, _*_, _/_, _%_, _^_, max, _≤_, _<_}
-use native.Mathlib.Nat.{add-mul, one-mul, zero-mul, sub-zero, sub-le, le-refl, lt-of-lt-of-le, max-zero, max-eq-right, mod-lt, mod-one, mod-eq-of-lt, div-eq-of-lt, div-self, mul-mod-left, add-mul-div-right, pow-suc, eq-or-lt-of-le, le-of-suc-le-suc}
-use native.Mathlib.Numerals.{one-add}
+use native.Mathlib.Nat.{add-zero, add-mul, one-mul, zero-mul, sub-zero, sub-le, le-refl, lt-of-lt-of-le, max-zero, max-eq-right, mod-lt, mod-one, mod-eq-of-lt, div-eq-of-lt, div-self, mul-mod-left, add-mul-div-right, pow-suc, eq-or-lt-of-le, le-of-suc-le-suc}
+use native.Mathlib.Numerals.{add-one, one-add}
 use native.Mathlib.Omega.{arith}
 use mathlib.Core.Path.{_≡_, refl, sym, ap, ap₂, _∙_, subst}
 use mathlib.Core.Logic.{_≢_, inl, inr}
-use mathlib.Core.Bool.{Bool, true, false, cond}
-use mathlib.Core.List.{[], _∷_, List·Memᴰ, List·Memᴰ·head, List·Memᴰ·not-nil, List·Memᴰ·append-cases, List·Memᴰ·eq-of-singleton, Memᴰ·append-left, Memᴰ·append-right}
+use mathlib.Core.Bool.{Bool, true, false, cond, true≢false}
+use mathlib.Core.List.{List, [], _∷_, _++_, map, map-append, append-nil, List·Memᴰ, List·Memᴰ·head, List·Memᴰ·not-nil, List·Memᴰ·append-cases, List·Memᴰ·eq-of-singleton, Memᴰ·append-left, Memᴰ·append-right}
 use lib.ListN.{length, length-append}
 use lib.Dec.{eqb, ltb, lit≤}
 use lib.Bits.{bitAnd, bitOr, and-high, or-shr, or-step, or-add-and, or-disjoint, or-lt, and-le-l}
 use lib.Count.{ones, ones-cat}
-use lib.Pow.{pow-pos, pow-mono, pow-lt, pow-add, high-ones, mod-pow-add, shl-shr}
+use lib.Pow.{pow-pos, pow-mono, pow-lt, pow-add, high, ones-lt, ones-split, high-ones, mod-pow-add, shl-shr}
 use borrow.Table.Steps.{cases}
 use borrow.Author.Tests.{lt-ltb, le-ltb, ltb-true, ltb-false}
 use Rattle.layout.specs.Bits.{bitAt, hasBit, setBit, clearBit, setPlaces}
@@ -160,6 +160,22 @@ pub has-clear-other : (row j k : ℕ) → k ≢ j → hasBit (clearBit row j) k 
 unfolding hasBit
 has-clear-other row j k n = ap (λ (x : ℕ). eqb x 1) (bit-clear-other row j k n)
 
+-- a bit that is set in a row below 2 ^ n is one of the first n
+pub has-below : (row n j : ℕ) → row < 2 ^ n → hasBit row j ≡ true → j < n
+has-below row n j h t = cases (ltb j n) (ltb-true j n) (λ e. absurd (true≢false (sym t ∙ has-beyond row n j h (ltb-false j n e))))
+
+-- the first n bits are set in 2 ^ n less 1
+pub has-low : (n j : ℕ) → j < n → hasBit (2 ^ n - 1) j ≡ true
+unfolding hasBit bitAt
+has-low n j h =
+    let d : ℕ = n - suc j in
+    let s : n ≡ suc d + j = omega arith in
+    let p = pow-pos d in
+    let odd : (2 ^ suc d - 1) % 2 ≡ 1 = rw pow-suc (omega arith) in
+    ap (λ (x : ℕ). eqb ((2 ^ x - 1) / 2 ^ j % 2) 1) s
+    ∙ ap (λ (x : ℕ). eqb (x / 2 ^ j % 2) 1) (ones-split (suc d) j)
+    ∙ ap (λ (x : ℕ). eqb (x % 2) 1) (high (2 ^ suc d - 1) j (ones-lt j)) ∙ ap (λ (x : ℕ). eqb x 1) odd
+
 -- ---- the places of the set bits: how many there are, and which
 
 pub length-places : (row n : ℕ) → length (setPlaces row n) ≡ ones (row % 2 ^ n)
@@ -205,3 +221,35 @@ member-place row (suc n) j m = elim (List·Memᴰ·append-cases (setPlaces row n
     last : (t : Bool) → hasBit row n ≡ t → List·Memᴰ j (cond t (n ∷ []) []) → (j < suc n) × (hasBit row j ≡ true)
     last true e l = let q : j ≡ n = List·Memᴰ·eq-of-singleton l in (omega arith, ap (hasBit row) q ∙ e)
     last false e l = absurd (List·Memᴰ·not-nil l)
+
+-- ---- the set places below j + 1, those of a row below 2 ^ n, and a map over them
+
+module _ (row j : ℕ) where
+  pub places-set : hasBit row j ≡ true → setPlaces row (j + 1) ≡ setPlaces row j ++ (j ∷ [])
+  unfolding setPlaces
+  places-set t = ap (setPlaces row) (add-one j) ∙ ap (λ (b : Bool). setPlaces row j ++ cond b (j ∷ []) []) t
+
+  pub places-unset : hasBit row j ≡ false → setPlaces row (j + 1) ≡ setPlaces row j
+  unfolding setPlaces
+  places-unset t =
+      ap (setPlaces row) (add-one j) ∙ ap (λ (b : Bool). setPlaces row j ++ cond b (j ∷ []) []) t ∙ append-nil (setPlaces row j)
+
+pub places-beyond : (row n d : ℕ) → row < 2 ^ n → setPlaces row (n + d) ≡ setPlaces row n
+places-beyond row n zero h = ap (setPlaces row) (add-zero n)
+places-beyond row n (suc d) h =
+    let e : n + suc d ≡ n + d + 1 = omega arith in
+    let l : n ≤ n + d = omega arith in
+    ap (setPlaces row) e ∙ places-unset row (n + d) (has-beyond row n (n + d) h l) ∙ places-beyond row n d h
+
+pub map-places : {A : Type 0} (f g : ℕ → A) (row n : ℕ) → ((j : ℕ) → hasBit row j ≡ true → f j ≡ g j)
+    → map f (setPlaces row n) ≡ map g (setPlaces row n)
+unfolding setPlaces
+map-places f g row zero same = refl
+map-places {A = A} f g row (suc n) same =
+    map-append f (setPlaces row n) (cond (hasBit row n) (n ∷ []) [])
+    ∙ ap₂ (λ (x y : List A). x ++ y) (map-places f g row n same) (last (hasBit row n) refl)
+    ∙ sym (map-append g (setPlaces row n) (cond (hasBit row n) (n ∷ []) []))
+  where
+    last : (t : Bool) → hasBit row n ≡ t → map f (cond t (n ∷ []) []) ≡ map g (cond t (n ∷ []) [])
+    last true e = ap (λ (x : A). x ∷ []) (same n e)
+    last false e = refl

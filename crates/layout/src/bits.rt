@@ -1,5 +1,6 @@
 // Bits of a 32-bit row.
 ghost use mathlib.Core.Path.{_≡_};
+ghost use Prim.Native.Nat.{_-_, _^_, min};
 ghost use lib.ListN.{length};
 ghost use Rattle.layout.specs.Bits.{bitAt, hasBit, setBit, clearBit, setPlaces};
 
@@ -37,6 +38,16 @@ pub fn clear_bit(row: u32, j: usize) -> u32
         return row;
     }
     row - (row & (1u32 << j))
+}
+
+// The row with its first n bits set; all 32 from n = 32 on.
+pub fn low_bits(n: usize) -> u32
+    ensures { λ r. ⌜ r ≡ 2 ^ min n 32 - 1 ⌝ }
+{
+    if 32 <= n {
+        return 0xffff_ffff;
+    }
+    (1u32 << n) - 1
 }
 
 // The number of set bits, which is that of the set places.

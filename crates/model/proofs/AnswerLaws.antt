@@ -36,7 +36,7 @@ use Rattle.model.proofs.RuleLaws.{ValidState}
 -- ---- lists with a count
 
 module _ {A : Type 0} (entry : A → List ℕ) (width : ℕ) (e : (x : A) → length (entry x) ≡ width) where
-  length-entries : (xs : List A) → length (flatten (map entry xs)) ≡ length xs * width
+  pub length-entries : (xs : List A) → length (flatten (map entry xs)) ≡ length xs * width
   unfolding flatten
   length-entries [] = sym (zero-mul width)
   length-entries (x ∷ xs) =
@@ -52,13 +52,13 @@ length-staff : (ns : List ℕ) → length (staffList ns) ≡ 2 + length ns * 4
 unfolding staffList
 length-staff ns = length-counted (toLeBytes 4) 4 (length-to 4) ns
 
+pub length-post : (s : State) (p : Post) → length (postEntry s p) ≡ 8
+unfolding postEntry
+length-post s p = simp (length-append, length-to)
+
 -- a list of posts takes 2 bytes and 8 for each post
 pub posts-answer : (s : State) → length (countedList (postEntry s) (s .posts)) ≡ 2 + length (s .posts) * 8
-unfolding postEntry
-posts-answer s =
-    length-counted (postEntry s) 8
-    (λ (p : Post). length-append (toLeBytes 4 (p .number)) (toLeBytes 4 (ownerOf s p .number))
-    ∙ ap₂ (λ (m n : ℕ). m + n) (length-to 4 (p .number)) (length-to 4 (ownerOf s p .number))) (s .posts)
+posts-answer s = length-counted (postEntry s) 8 (length-post s) (s .posts)
 
 -- ---- the body of each query
 

@@ -1,7 +1,7 @@
 -- For each kind that changes the board: these writes at these places are the encoding of that change.
 use Prim.Native.Nat.{ℕ, _+_, _-_, _*_, _^_, _≤_, _<_}
 use native.Mathlib.Omega.{arith}
-use mathlib.Core.Path.{_≡_, ap, _∙_, subst}
+use mathlib.Core.Path.{_≡_, sym, ap, _∙_, subst}
 use mathlib.Core.List.{List, [], _∷_, _++_}
 use mathlib.Core.Bool.{true}
 use lib.ListN.{length, getD, set, replicate, length-append, length-set}
@@ -11,20 +11,20 @@ use Rattle.layout.specs.Numbers.{toLeBytes}
 use Rattle.layout.specs.StringFields.{isString, stringField}
 use Rattle.layout.specs.Tables.{withoutRecord}
 use Rattle.layout.specs.Bits.{setBit, clearBit}
-use Rattle.layout.proofs.BitLaws.{set-lt, clear-le}
-use Rattle.reader.specs.Fields.{nameLimit, infoLimit, titleLimit, textLimit, noteLimit}
+use Rattle.reader.specs.Fields.{numberIn, nameLimit, infoLimit, titleLimit, textLimit, noteLimit}
 use Rattle.model.specs.Lists.{removeAt}
 use Rattle.model.specs.State.{User, Post, Pending, State, userLimit, postLimit, pendingLimit, noUser, noPost, noPending, userAt, postAt, pendingAt}
 use Rattle.model.specs.StateUpdates.{withUsers, withPosts, withPending, withPassword, withFriends, withRequests, withName, withInfo, withTitle}
 use Rattle.model.specs.Lookups.{userSlot, postPlace, pendingPlace, postNumbered}
 use Rattle.model.specs.Actions.{startSys, cNUReq, cUser, cPost, cFriendReq, cFriend, dFriend, uUser, uTitlePost, uTextPost, uImgPost, uVisPost}
-use Rattle.model.specs.Changes.{addUser, updateUser, writeFriend, updatePost, setNote, addRequest, removeRequest, addFriends, removeFriends, acceptRequest, applyChange}
+use Rattle.model.specs.Changes.{addUser, updateUser, writeRequest, writeFriend, updatePost, setNote, addRequest, removeRequest, addFriends, removeFriends, acceptRequest, applyChange}
 use Rattle.model.proofs.FieldUpdates.{withUserNumber, withPostNumber, withOwner, withPendingNumber, withPendingNote}
 use Rattle.model.proofs.RecordTheorems.{userCodec}
 use Rattle.model.proofs.TableRecordLaws.{fits-count}
 use Rattle.model.proofs.BoardTheorems.{Encodes}
 use Rattle.model.proofs.RowInvariant.{BitWrite, set-writes, clear-writes}
 use Rattle.model.proofs.StoredValues.{friends-width, requests-width}
+use Rattle.model.proofs.ReadingLaws.{read-user-friends, read-user-requests}
 use Rattle.model.proofs.WritingLaws.{write-user-number, write-user-password, write-user-friends, write-user-requests, write-user-name, write-user-info, write-post-number, write-post-picture, write-post-owner, write-post-visibility, write-post-title, write-post-text, write-pending-number, write-pending-note, write-note, clear-note, add-user, add-post, add-pending, remove-pending}
 
 -- ---- a record added at the end of its table, field by field
@@ -60,6 +60,12 @@ postAdded b n number owner title =
     (patch (patch (patch b 2 (toLeBytes 2 (n + 1))) (3344 + n * 312) (toLeBytes 4 number)) (3344 + n * 312 + 8) (toLeBytes 2 owner))
     (3344 + n * 312 + 12)
     (stringField titleLimit title)
+
+-- the writes on the three fields that a user changes
+abbrev pub userUpdated : List ℕ → ℕ → ℕ → List ℕ → List ℕ → List ℕ
+userUpdated b i p name info =
+    patch (patch (patch b (16 + i * 104 + 4) (toLeBytes 8 p)) (16 + i * 104 + 20) (stringField nameLimit name)) (16 + i * 104 + 46)
+    (stringField infoLimit info)
 
 user-added : {b : List ℕ} {s : State} → Encodes b s → (u p : ℕ) → length (s .users) < userLimit → u < 2 ^ 32 → p < 2 ^ 64
     → Encodes (userAdded b (length (s .users)) u p) (addUser s u p)
@@ -128,8 +134,7 @@ module _ {b : List ℕ} {s : State} (w : Encodes b s) where
   -- 0401
   pub writes-uUser : (u p p2 : ℕ) (name info : List ℕ) → userSlot s u < length (s .users) → p2 < 2 ^ 64
       → isString nameLimit name ≡ true → isString infoLimit info ≡ true
-      → Encodes (patch (patch (patch b (16 + userSlot s u * 104 + 4) (toLeBytes 8 p2)) (16 + userSlot s u * 104 + 20) (stringField nameLimit name))
-      (16 + userSlot s u * 104 + 46) (stringField infoLimit info)) (applyChange s (uUser u p p2 name info))
+      → Encodes (userUpdated b (userSlot s u) p2 name info) (applyChange s (uUser u p p2 name info))
   unfolding applyChange updateUser userAt
   writes-uUser u p p2 name info h hp en ei =
       let i : ℕ = userSlot s u in
@@ -148,65 +153,70 @@ module _ {b : List ℕ} {s : State} (w : Encodes b s) where
   unfolding applyChange removeAt
   writes-cUser u p v p2 n h hn hl hu hv hp = user-added (remove-pending w n (pendingPlace s v) hn hl h) v p2 hu hv hp
 
-  -- 0204
-  pub writes-cFriendReq : (u p v : ℕ) (note : List ℕ) → userSlot s u < length (s .users) → userSlot s v < length (s .users)
-      → isString noteLimit note ≡ true
-      → Encodes (patch (patch b (16 + userSlot s v * 104 + 16) (toLeBytes 4 (setBit (userAt s (userSlot s v) .requests) (userSlot s u))))
-      (23824 + (userLimit * userSlot s v + userSlot s u) * 26) (stringField noteLimit note)) (applyChange s (cFriendReq u p v note))
-  unfolding applyChange addRequest setNote updateUser
-  writes-cFriendReq u p v note hu hv e =
-      let i : ℕ = userSlot s v in
-      let j : ℕ = userSlot s u in
-      let n = fits-count userCodec userLimit (s .users) (w .fits .users) in
-      let row = set-lt 32 (userAt s i .requests) j (requests-width s (w .fits) i) (omega arith) in
-      write-note (write-user-requests w i hv (setBit (userAt s i .requests) j) row) (userLimit * i + j) (omega arith) note e
+-- ---- requests and friends
 
--- the writes on both friend rows, where `f` sets or clears a bit; the second row is read after the first is written
-abbrev pub friendsWritten : (ℕ → ℕ → ℕ) → List ℕ → State → ℕ → ℕ → List ℕ
-friendsWritten f b s i j =
-    patch (patch b (16 + i * 104 + 12) (toLeBytes 4 (f (userAt s i .friends) j))) (16 + j * 104 + 12)
-    (toLeBytes 4 (f (userAt (writeFriend f s i j) j .friends) i))
+-- a row read from its place, and written back there with its bit j changed by f
+abbrev pub bitWritten : (ℕ → ℕ → ℕ) → List ℕ → ℕ → ℕ → List ℕ
+bitWritten f b at j = patch b at (toLeBytes 4 (f (numberIn b at 4) j))
 
-module _ {f : ℕ → ℕ → ℕ} {value : ℕ} (write : BitWrite f value) where
-  friends-written : {b : List ℕ} {s : State} → Encodes b s → (i j : ℕ) → i < length (s .users) → j < length (s .users)
-      → Encodes (friendsWritten f b s i j) (writeFriend f (writeFriend f s i j) j i)
+-- the writes that put in slot j's request to slot i, that remove it, and that change the friend rows of both slots
+abbrev pub requestAdded : List ℕ → ℕ → ℕ → List ℕ → List ℕ
+requestAdded b i j note = patch (bitWritten setBit b (16 + i * 104 + 16) j) (23824 + (userLimit * i + j) * 26) (stringField noteLimit note)
+
+abbrev pub requestRemoved : List ℕ → ℕ → ℕ → List ℕ
+requestRemoved b i j = patch (bitWritten clearBit b (16 + i * 104 + 16) j) (23824 + (userLimit * i + j) * 26) (replicate 26 0)
+
+abbrev pub friendsWritten : (ℕ → ℕ → ℕ) → List ℕ → ℕ → ℕ → List ℕ
+friendsWritten f b i j = bitWritten f (bitWritten f b (16 + i * 104 + 12) j) (16 + j * 104 + 12) i
+
+module _ {f : ℕ → ℕ → ℕ} {value : ℕ} (write : BitWrite f value) {b : List ℕ} {s : State} (w : Encodes b s)
+    (i j : ℕ) (hi : i < length (s .users)) (hj : j < length (s .users)) where
+  request-written : Encodes (bitWritten f b (16 + i * 104 + 16) j) (writeRequest f s i j)
   unfolding updateUser
-  friends-written {s = s} w i j hi hj =
+  request-written =
       let n = fits-count userCodec userLimit (s .users) (w .fits .users) in
-      let row : ℕ = f (userAt s i .friends) j in
-      let first = write-user-friends w i hi row (write .bound 32 (userAt s i .friends) j (friends-width s (w .fits) i) (omega arith)) in
-      let t : State = withUsers s (set (s .users) i (withFriends (userAt s i) row)) in
-      let same : length (t .users) ≡ length (s .users) = length-set (s .users) i (withFriends (userAt s i) row) in
-      write-user-friends first j (omega arith) (f (userAt t j .friends) i)
-      (write .bound 32 (userAt t j .friends) i (friends-width t (first .fits) j) (omega arith))
+      let bound = write .bound 32 (userAt s i .requests) j (requests-width s (w .fits) i) (omega arith) in
+      subst (λ (row : ℕ). Encodes (patch b (16 + i * 104 + 16) (toLeBytes 4 (f row j))) (writeRequest f s i j))
+      (sym (read-user-requests w i hi)) (write-user-requests w i hi (f (userAt s i .requests) j) bound)
 
--- the writes that remove slot j's request to slot i: the bit, and the note
-abbrev pub requestRemoved : List ℕ → State → ℕ → ℕ → List ℕ
-requestRemoved b s i j =
-    patch (patch b (16 + i * 104 + 16) (toLeBytes 4 (clearBit (userAt s i .requests) j))) (23824 + (userLimit * i + j) * 26) (replicate 26 0)
+  friend-written : Encodes (bitWritten f b (16 + i * 104 + 12) j) (writeFriend f s i j)
+  unfolding updateUser
+  friend-written =
+      let n = fits-count userCodec userLimit (s .users) (w .fits .users) in
+      let bound = write .bound 32 (userAt s i .friends) j (friends-width s (w .fits) i) (omega arith) in
+      subst (λ (row : ℕ). Encodes (patch b (16 + i * 104 + 12) (toLeBytes 4 (f row j))) (writeFriend f s i j))
+      (sym (read-user-friends w i hi)) (write-user-friends w i hi (f (userAt s i .friends) j) bound)
 
-request-removed : {b : List ℕ} {s : State} → Encodes b s → (i j : ℕ) → i < length (s .users) → j < length (s .users)
-    → Encodes (requestRemoved b s i j) (removeRequest s i j)
-unfolding removeRequest setNote updateUser
-request-removed {s = s} w i j hi hj =
-    let n = fits-count userCodec userLimit (s .users) (w .fits .users) in
-    let row = requests-width s (w .fits) i in
-    let le = clear-le (userAt s i .requests) j in
-    clear-note (write-user-requests w i hi (clearBit (userAt s i .requests) j) (omega arith)) (userLimit * i + j) (omega arith)
+module _ {f : ℕ → ℕ → ℕ} {value : ℕ} (write : BitWrite f value) {b : List ℕ} {s : State} (w : Encodes b s)
+    (i j : ℕ) (hi : i < length (s .users)) (hj : j < length (s .users)) where
+  friends-written : Encodes (friendsWritten f b i j) (writeFriend f (writeFriend f s i j) j i)
+  unfolding updateUser
+  friends-written =
+      let same = length-set (s .users) i (withFriends (userAt s i) (f (userAt s i .friends) j)) in
+      friend-written write (friend-written write w i j hi hj) j i (omega arith) (omega arith)
 
 module _ {b : List ℕ} {s : State} (w : Encodes b s) (u p v : ℕ) (hu : userSlot s u < length (s .users)) (hv : userSlot s v < length (s .users)) where
+  -- 0204
+  pub writes-cFriendReq : (note : List ℕ) → isString noteLimit note ≡ true
+      → Encodes (requestAdded b (userSlot s v) (userSlot s u) note) (applyChange s (cFriendReq u p v note))
+  unfolding applyChange addRequest setNote updateUser
+  writes-cFriendReq note e =
+      let n = fits-count userCodec userLimit (s .users) (w .fits .users) in
+      write-note (request-written set-writes w (userSlot s v) (userSlot s u) hv hu) (userLimit * userSlot s v + userSlot s u) (omega arith) note e
+
   -- 0205
-  pub writes-cFriend :
-      Encodes (friendsWritten setBit (requestRemoved b s (userSlot s u) (userSlot s v)) (removeRequest s (userSlot s u) (userSlot s v))
-      (userSlot s u) (userSlot s v)) (applyChange s (cFriend u p v))
+  pub writes-cFriend : Encodes (friendsWritten setBit (requestRemoved b (userSlot s u) (userSlot s v)) (userSlot s u) (userSlot s v))
+      (applyChange s (cFriend u p v))
   unfolding applyChange acceptRequest addFriends removeRequest setNote updateUser
   writes-cFriend =
       let i : ℕ = userSlot s u in
       let j : ℕ = userSlot s v in
+      let n = fits-count userCodec userLimit (s .users) (w .fits .users) in
       let same = length-set (s .users) i (withRequests (userAt s i) (clearBit (userAt s i .requests) j)) in
-      friends-written set-writes (request-removed w i j hu hv) i j (omega arith) (omega arith)
+      let removed = clear-note (request-written clear-writes w i j hu hv) (userLimit * i + j) (omega arith) in
+      friends-written set-writes removed i j (omega arith) (omega arith)
 
   -- 0301
-  pub writes-dFriend : Encodes (friendsWritten clearBit b s (userSlot s u) (userSlot s v)) (applyChange s (dFriend u p v))
+  pub writes-dFriend : Encodes (friendsWritten clearBit b (userSlot s u) (userSlot s v)) (applyChange s (dFriend u p v))
   unfolding applyChange removeFriends
   writes-dFriend = friends-written clear-writes w (userSlot s u) (userSlot s v) hu hv

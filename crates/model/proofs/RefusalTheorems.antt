@@ -31,7 +31,7 @@ use Rattle.model.specs.Actions.{Cause, malformed, unsoundBoard, shortBuf
 use Rattle.model.specs.Actions.{Change, startSys, cNUReq, cUser, cPost, cFriendReq, cFriend, dFriend, uUser, uTitlePost, uTextPost, uImgPost, uVisPost}
 use Rattle.model.specs.Actions.{Query, rUser, rNUReq, rAmIAdmin, rTitlePost, rTextPost, rImgPost, rVisPost, rOwnerPost, rFriendReqToMe, rFriendReqFromMe, lPendingUReqs, lAllUsers, lAllPosts, lFriendReqs, lFriends, lFriendsOf}
 use Rattle.model.specs.Actions.{Action, change, query, refused, actionNamed, actionFrom, actionOf}
-use Rattle.model.specs.Refusals.{causeNumber, refusalOrder, RefusalRow, rightOf, lacksRight, afterLogin, postRows, userRows, pendingRows, changeRefusals, queryRefusals, firstCause}
+use Rattle.model.specs.Refusals.{causeNumber, refusalOrder, RefusalRow, rightOf, lacksRight, afterLogin, postRows, userRows, pendingRows, changeRefusals, queryRefusals, firstCause, numberReturned, firstNumber}
 use Rattle.model.specs.Changes.{applyChange}
 use Rattle.model.specs.Answers.{answerBody}
 use Rattle.model.specs.Step.{answerLimit, respond, stepAction, stepState, argumentRefusals, writeAnswer, stepWith, stepOf}
@@ -142,13 +142,8 @@ message-cause msg = by-frame (isFrame msg)
 
 -- ---- the step returns the number of the first row that applies
 
--- 0 where no row applies
-abbrev pub numberReturned : Option Cause → ℕ
-numberReturned none = 0
-numberReturned (some cause) = causeNumber cause
-
 module _ (ys : List RefusalRow) where
-  first-none : (xs : List RefusalRow) → firstCause xs ≡ none → firstCause (xs ++ ys) ≡ firstCause ys
+  pub first-none : (xs : List RefusalRow) → firstCause xs ≡ none → firstCause (xs ++ ys) ≡ firstCause ys
   unfolding firstCause
   first-none [] e = refl
   first-none (x ∷ xs) e = by-test (x .1) (first-none xs) e
@@ -158,7 +153,7 @@ module _ (ys : List RefusalRow) where
       by-test true later q = absurd (Option·none-ne-some (x .0) (sym q))
       by-test false later q = later q
 
-  first-some : (xs : List RefusalRow) (c : Cause) → firstCause xs ≡ some c → firstCause (xs ++ ys) ≡ some c
+  pub first-some : (xs : List RefusalRow) (c : Cause) → firstCause xs ≡ some c → firstCause (xs ++ ys) ≡ some c
   unfolding firstCause
   first-some [] c e = absurd (Option·none-ne-some c e)
   first-some (x ∷ xs) c e = by-test (x .1) (first-some xs c) e
@@ -184,12 +179,12 @@ action-number s rows (query q) e =
 action-number s rows (refused refusal) e =
     respond-number (some (malformed refusal)) s s [] ∙ ap numberReturned (sym (first-some [] rows (malformed refusal) e))
 
-pub state-number : (msg : List ℕ) (s : State) → stepState msg s .number ≡ numberReturned (firstCause (stateRows msg s))
-unfolding stepState stateRows
+pub state-number : (msg : List ℕ) (s : State) → stepState msg s .number ≡ firstNumber (stateRows msg s)
+unfolding stepState stateRows firstNumber
 state-number msg s = action-number s (messageRows msg) (actionOf msg) (message-cause msg)
 
-pub step-number : (msg b o : List ℕ) → stepOf msg b o .number ≡ numberReturned (firstCause (tableRows msg b o))
-unfolding stepOf stepWith writeAnswer argumentRefusals firstCause tableRows
+pub step-number : (msg b o : List ℕ) → stepOf msg b o .number ≡ firstNumber (tableRows msg b o)
+unfolding stepOf stepWith writeAnswer argumentRefusals firstCause firstNumber tableRows
 step-number msg b o = by-tests (not (isSound b)) (ltb (length o) answerLimit)
   where
     by-tests : (x y : Bool) → stepWith (cond x (some unsoundBoard) (cond y (some shortBuffer) none)) msg b o .number
@@ -235,7 +230,7 @@ rank-number postsFull = refl
 
 -- ---- accepted: no row applies
 
-no-cause : (o : Option Cause) → numberReturned o ≡ 0 → o ≡ none
+pub no-cause : (o : Option Cause) → numberReturned o ≡ 0 → o ≡ none
 no-cause none e = refl
 no-cause (some cause) e = absurd (omega (arith, rank-number cause, e))
 
@@ -251,6 +246,7 @@ accepted-action s (query q) e = let cause = firstCause (queryRefusals s q) in no
 accepted-action s (refused refusal) e = absurd (refused-number s refusal e)
 
 pub accepted-message : (msg : List ℕ) (s : State) → stepState msg s .number ≡ 0 → firstCause (stateRows msg s) ≡ none
+unfolding firstNumber
 accepted-message msg s e = no-cause (firstCause (stateRows msg s)) (sym (state-number msg s) ∙ e)
 
 -- ---- the rows rise
@@ -354,6 +350,7 @@ first-least (r ∷ rows) e (suc i) h a =
 -- "The lowest number that applies is returned": where a row applies the step refuses, with no greater number
 pub lowest-number : (msg b o : List ℕ) (i : ℕ) → i < length (tableRows msg b o) → nthRow (tableRows msg b o) i .1 ≡ true
     → (0 < stepOf msg b o .number) × (stepOf msg b o .number ≤ causeNumber (nthRow (tableRows msg b o) i .0))
+unfolding firstNumber
 lowest-number msg b o i h a =
     let least = first-least (tableRows msg b o) (table-rising msg b o) i h a in
     let number : stepOf msg b o .number ≡ causeNumber (least .0) = step-number msg b o ∙ ap numberReturned (least .1) in
@@ -376,6 +373,7 @@ first-applies (r ∷ rows) c e = by-test (r .1) refl (first-applies rows c) e
 pub number-applies : (msg b o : List ℕ) → (stepOf msg b o .number ≡ 0 → ⊥)
     → (i : ℕ) × (i < length (tableRows msg b o)) × (nthRow (tableRows msg b o) i .1 ≡ true)
     × (causeNumber (nthRow (tableRows msg b o) i .0) ≡ stepOf msg b o .number)
+unfolding firstNumber
 number-applies msg b o h = by-cause (firstCause (tableRows msg b o)) refl
   where
     by-cause : (c : Option Cause) → firstCause (tableRows msg b o) ≡ c
@@ -400,7 +398,7 @@ later-from msg s = action-from s (actionOf msg) 3 (lit≤ tt)
 
 pub frame-number : (msg : List ℕ) (s : State) → isFrame msg ≡ true
     → (ltb 3 (stepState msg s .number) || eqb (stepState msg s .number) 0) ≡ true
-unfolding stateRows messageRows firstCause
+unfolding stateRows messageRows firstCause firstNumber
 frame-number msg s f =
     let later : List RefusalRow = (malformed Kind, not (isKnown (kindFields (kindOf msg))))
     ∷ (malformed Body, not (bodyFits (kindFields (kindOf msg)) (bodyOf msg))) ∷ actionRows s (actionOf msg) in

@@ -128,3 +128,12 @@ queryRefusals s (lFriendsOf u p v) = userRows s u p v (lacksRight s (rightOf 0x0
 unfoldable pub firstCause : List RefusalRow → Option Cause
 firstCause [] = none
 firstCause (c ∷ cs) = cond (c .1) (some (c .0)) (firstCause cs)
+
+-- the number returned, 0 where there is no cause
+abbrev pub numberReturned : Option Cause → ℕ
+numberReturned none = 0
+numberReturned (some cause) = causeNumber cause
+
+-- that of the first row that applies
+unfoldable pub firstNumber : List RefusalRow → ℕ
+firstNumber rows = numberReturned (firstCause rows)

@@ -1,0 +1,216 @@
+// The step: one message on a board.
+mod answers;
+mod creations;
+mod deletions;
+mod listings;
+mod lookups;
+mod readings;
+mod records;
+mod refusals;
+mod rows;
+mod updates;
+
+ghost use mathlib.Core.Path.{_≡_};
+ghost use Prim.Native.Nat.{_+_, _≤_};
+ghost use lib.ListN.{length};
+ghost use Rattle.layout.specs.Bytes.{bytesAt};
+ghost use Rattle.reader.specs.Messages.{refusalNumber};
+ghost use Rattle.model.specs.Actions.{actionOf};
+ghost use Rattle.model.specs.Step.{answerLimit, stepOf};
+ghost use Rattle.model.proofs.SoundnessTheorems.{SoundState};
+ghost use Rattle.step.specs.ActionResults.{acted, actionResult};
+ghost use Rattle.step.specs.Results.{stepped};
+use crate::creations::accept_request;
+use crate::creations::create_post;
+use crate::creations::register_user;
+use crate::creations::request_friend;
+use crate::creations::request_registration;
+use crate::creations::start_system;
+use crate::deletions::end_friendship;
+use crate::listings::list_friends;
+use crate::listings::list_friends_of;
+use crate::listings::list_pending;
+use crate::listings::list_posts;
+use crate::listings::list_requests;
+use crate::listings::list_users;
+use crate::readings::read_admin;
+use crate::readings::read_owner;
+use crate::readings::read_pending;
+use crate::readings::read_picture;
+use crate::readings::read_request_from;
+use crate::readings::read_request_to;
+use crate::readings::read_text;
+use crate::readings::read_title;
+use crate::readings::read_user;
+use crate::readings::read_visibility;
+use crate::updates::update_picture;
+use crate::updates::update_text;
+use crate::updates::update_title;
+use crate::updates::update_user;
+use crate::updates::update_visibility;
+use board::sound;
+use layout::number::write_u16;
+use reader::Message;
+use reader::Refusal;
+use reader::Span;
+use reader::decode;
+use reader::frame::body;
+
+// The largest answer.
+pub const ANSWER_LIMIT: usize = 518;
+
+// The bytes of a frame before its body.
+const HEAD_SIZE: usize = 4;
+
+// The number that is returned, 0 for accepted, and the bytes written.
+pub struct Answer {
+    pub number: u16,
+    pub written: usize,
+}
+
+// The number, and the length of the answer's body.
+pub(crate) struct Reply {
+    pub(crate) number: u16,
+    pub(crate) len: usize,
+}
+
+fn refusal_number(refusal: Refusal) -> u16
+    ensures { λ r. ⌜ r ≡ refusalNumber refusal ⌝ }
+{
+    match refusal {
+        Refusal::Frame => 3,
+        Refusal::Kind => 4,
+        Refusal::Body => 5,
+    }
+}
+
+// An answer without a body: a refusal, and "no body for changes".
+pub(crate) fn without_body(number: u16) -> Reply
+    ensures { λ r. ⌜ (r .number ≡ number) × (r .len ≡ 0) ⌝ }
+{
+    Reply { number, len: 0 }
+}
+
+// The string that a span of the body names.
+fn span_bytes(body: &[u8], span: Span) -> &[u8]
+    requires { ⌜ span .start + span .len ≤ length (now body) ⌝ }
+    ensures { λ r. ⌜ now r ≡ bytesAt (now (body .entry)) (span .start) (span .len) ⌝ }
+{
+    let start = span.start;
+    let len = span.len;
+    &body[start..start + len]
+}
+
+// The action of a message: its refusals, its change, the body of its answer.
+fn act(msg: &[u8], board: &mut [u8], out: &mut [u8]) -> Reply
+    requires { ⌜ SoundState (now board) × (answerLimit ≤ length (now out)) ⌝ }
+    ensures { λ r. ⌜ acted r (now (board .exit)) (now (out .exit)) ≡ actionResult (now (board .entry)) (actionOf (now (msg .entry))) (now (out .entry)) ⌝ }
+{
+    let message = decode(msg);
+    let body = body(msg);
+    match message {
+        Message::StartSys(login) => without_body(start_system(board, login)),
+        Message::CNUReq(u, note) => without_body(request_registration(
+            board,
+            u,
+            span_bytes(body, note),
+        )),
+        Message::CUser(login, v, password) => without_body(register_user(
+            board,
+            login,
+            v,
+            password,
+        )),
+        Message::CPost(login, n, title) => without_body(create_post(
+            board,
+            login,
+            n,
+            span_bytes(body, title),
+        )),
+        Message::CFriendReq(login, v, note) => without_body(request_friend(
+            board,
+            login,
+            v,
+            span_bytes(body, note),
+        )),
+        Message::CFriend(login, v) => without_body(accept_request(board, login, v)),
+        Message::DFriend(login, v) => without_body(end_friendship(board, login, v)),
+        Message::UUser(login, password, name, info) => {
+            without_body(update_user(
+                board,
+                login,
+                password,
+                span_bytes(body, name),
+                span_bytes(body, info),
+            ))
+        }
+        Message::UTitlePost(login, n, title) => without_body(update_title(
+            board,
+            login,
+            n,
+            span_bytes(body, title),
+        )),
+        Message::UTextPost(login, n, text) => without_body(update_text(
+            board,
+            login,
+            n,
+            span_bytes(body, text),
+        )),
+        Message::UImgPost(login, n, picture) => without_body(update_picture(
+            board,
+            login,
+            n,
+            picture,
+        )),
+        Message::UVisPost(login, n, visibility) => without_body(update_visibility(
+            board,
+            login,
+            n,
+            visibility,
+        )),
+        Message::RUser(login, v) => read_user(board, login, v, out),
+        Message::RNUReq(login, v) => read_pending(board, login, v, out),
+        Message::RAmIAdmin(login) => read_admin(board, login, out),
+        Message::RTitlePost(login, n) => read_title(board, login, n, out),
+        Message::RTextPost(login, n) => read_text(board, login, n, out),
+        Message::RImgPost(login, n) => read_picture(board, login, n, out),
+        Message::RVisPost(login, n) => read_visibility(board, login, n, out),
+        Message::ROwnerPost(login, n) => read_owner(board, login, n, out),
+        Message::RFriendReqToMe(login, v) => read_request_to(board, login, v, out),
+        Message::RFriendReqFromMe(login, v) => read_request_from(board, login, v, out),
+        Message::LPendingUReqs(login) => list_pending(board, login, out),
+        Message::LAllUsers(login) => list_users(board, login, out),
+        Message::LAllPosts(login) => list_posts(board, login, out),
+        Message::LFriendReqs(login) => list_requests(board, login, out),
+        Message::LFriends(login) => list_friends(board, login, out),
+        Message::LFriendsOf(login, v) => list_friends_of(board, login, v, out),
+        Message::Refused(refusal) => without_body(refusal_number(refusal)),
+    }
+}
+
+// One message on a board: the board changed if it is accepted, the answer's frame in the buffer.
+pub fn step(msg: &[u8], board: &mut [u8], out: &mut [u8]) -> Answer
+    ensures { λ r. ⌜ stepped r (now (board .exit)) (now (out .exit)) ≡ stepOf (now (msg .entry)) (now (board .entry)) (now (out .entry)) ⌝ }
+{
+    if !sound(board) {
+        return Answer {
+            number: 1,
+            written: 0,
+        };
+    }
+    if out.len() < ANSWER_LIMIT {
+        return Answer {
+            number: 2,
+            written: 0,
+        };
+    }
+    let reply = act(msg, board, out);
+    let number = reply.number;
+    let len = reply.len;
+    write_u16(out, 0, (2 + len) as u16);
+    write_u16(out, 2, number);
+    Answer {
+        number,
+        written: HEAD_SIZE + len,
+    }
+}
