@@ -14,8 +14,8 @@ use Rattle.layout.specs.Bytes.{bytesAt, patch, writeAt, allZero}
 use Rattle.layout.specs.Numbers.{toLeBytes, fromLeBytes}
 use Rattle.layout.specs.StringFields.{isString, stringBytes, stringField, statedLength, fieldString, isStringField, writeString}
 use Rattle.layout.proofs.BooleanLaws.{and-left, and-right, and-both, chain-stops, chain-goes-on}
-use Rattle.layout.proofs.ByteLaws.{length-bytesAt, length-write, bytesAt-bytesAt, bytesAt-join, take-bytesAt, drop-bytesAt, write-within, write-beyond, patch-join, zero-replicate, replicate-zero}
-use Rattle.layout.proofs.NumberLaws.{length-to, from-to, to-from, to-mod, to-zero, bytes-take, bytes-bytesAt}
+use Rattle.layout.proofs.ByteLaws.{length-bytesAt, length-write, take-bytesAt, drop-bytesAt, write-within, write-beyond, patch-join, zero-replicate, replicate-zero}
+use Rattle.layout.proofs.NumberLaws.{length-to, from-to, to-from, to-mod, to-zero, bytes-take}
 
 -- ---- what a string is
 
@@ -141,15 +141,6 @@ field-cut b at limit h =
     chain-stops (eqb (length (take (2 + limit) (drop at b))) (2 + limit)) _
     (ne-eqb (length (take (2 + limit) (drop at b))) (2 + limit) (λ e. omega arith))
 
--- a field that holds a string lies within the bytes
-pub field-there : (b : List ℕ) (at limit : ℕ) → isStringField limit (bytesAt b at (2 + limit)) ≡ true → at + (2 + limit) ≤ length b
-unfolding bytesAt
-field-there b at limit t =
-    let f = holds-string limit (take (2 + limit) (drop at b)) t .full-size in
-    let k = length-take (2 + limit) (drop at b) in
-    let d = length-drop at b in
-    omega arith
-
 -- one that is there, its stated length n
 module _ (b : List ℕ) (at limit n : ℕ) (h : at + (2 + limit) ≤ length b) (e : n ≡ fromLeBytes (bytesAt b at 2)) where
   pub stated-at : statedLength (bytesAt b at (2 + limit)) ≡ n
@@ -179,27 +170,28 @@ module _ (b : List ℕ) (at limit n : ℕ) (h : at + (2 + limit) ≤ length b) (
       (sym (ap (λ (m : ℕ). allZero (drop (2 + m) f)) s
       ∙ ap allZero (drop-bytesAt b at (2 + n) (2 + limit) ∙ ap₂ (bytesAt b) (sym (add-assoc at 2 n)) d)))))
 
-  -- the string with its length is what stands before the padding
-  module _ (t : isStringField limit (bytesAt b at (2 + limit)) ≡ true) where
-    pub stated-le : n ≤ limit
-    stated-le =
-        let f = holds-string limit (bytesAt b at (2 + limit)) t in
-        let s = stated-at in
-        let a = f .there in
-        let k = f .full-size in
-        omega arith
+-- a field that holds s, where it stands: it lies within the bytes, and the string with its length comes before the padding
+module _ (b : List ℕ) (at limit : ℕ) (s : List ℕ) (h : isString limit s ≡ true) (l : length s < 65536)
+    (e : bytesAt b at (2 + limit) ≡ stringField limit s) where
+  pub held-inside : at + (2 + limit) ≤ length b
+  unfolding bytesAt
+  held-inside =
+      let f = ap length e ∙ length-field limit s h in
+      let k = length-take (2 + limit) (drop at b) in
+      let d = length-drop at b in
+      omega arith
 
-    pub string-part : areBytes b ≡ true → bytesAt b at (2 + n) ≡ stringBytes (fieldString (bytesAt b at (2 + limit)))
-    unfolding stringBytes fieldString
-    string-part y =
-        let f : List ℕ = bytesAt b at (2 + limit) in
-        let k = length-bytesAt b at (2 + limit) h in
-        let m = stated-le in
-        let l = length-string f (holds-string limit f t .there) in
-        bytesAt-join b at 2 n
-        ∙ ap₂ (λ (x s : List ℕ). x ++ s)
-        (sym (ap (toLeBytes 2) l ∙ stated-bytes f (bytes-bytesAt b at (2 + limit) y) (omega arith) ∙ take-bytesAt b at 2 (2 + limit) (omega arith)))
-        (sym (ap (bytesAt f 2) stated-at ∙ bytesAt-bytesAt b at (2 + limit) 2 n (omega arith)))
+  pub held-length : fromLeBytes (bytesAt b at 2) ≡ length s
+  unfolding statedLength
+  held-length = ap fromLeBytes (sym (take-bytesAt b at 2 (2 + limit) (omega arith)) ∙ ap (take 2) e) ∙ stated-field limit s h l
+
+  pub held-string : bytesAt b at (2 + fromLeBytes (bytesAt b at 2)) ≡ stringBytes s
+  unfolding stringField
+  held-string =
+      let m = string-le limit s h in
+      ap (λ (n : ℕ). bytesAt b at (2 + n)) held-length
+      ∙ sym (take-bytesAt b at (2 + length s) (2 + limit) (omega arith)) ∙ ap (take (2 + length s)) e
+      ∙ take-at (stringBytes s) (replicate (limit - length s) 0) (2 + length s) (length-stringBytes s)
 
 -- ---- a field written
 

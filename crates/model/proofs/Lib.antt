@@ -17,6 +17,7 @@ pub mod DamagedBoards
 pub mod EmptyBoard
 pub mod RuleLaws
 pub mod SoundnessTheorems
+pub mod SoundBoards
 pub mod EnumActions
 pub mod RefusalTheorems
 pub mod StepDefinitions

@@ -22,8 +22,10 @@ use Rattle.reader.proofs.MessageTheorems.{spans-within}
 use Rattle.model.specs.Actions.{Change, Query, Action, change, query, refused, actionOf}
 use Rattle.model.proofs.ActionLaws.{ActionFits, action-fits}
 use Rattle.model.proofs.EnumActions.{enumAction, enum-action}
-use Rattle.step.specs.ActionResults.{bodyWritten, changed, changeResult, replied, queryResult, ActionResult, acted, actionResult}
-use Rattle.step.specs.declared.Reply.{Reply}
+use Rattle.changes.specs.ChangeResults.{changed, changeResult}
+use Rattle.queries.specs.QueryResults.{bodyWritten, replied, queryResult}
+use Rattle.step.specs.ActionResults.{ActionResult, acted, actionResult}
+use Rattle.queries.specs.declared.Reply.{Reply}
 
 -- the message is the case m of the enum
 pub record Decoded (msg : List ℕ) (m : Message) : Type 0 where

@@ -28,8 +28,10 @@ use Rattle.model.proofs.RefusalTheorems.{rank-number}
 use Rattle.model.proofs.BufferLaws.{patch-start}
 use Rattle.model.proofs.SoundnessTheorems.{sound-state}
 use Rattle.model.proofs.StepTheorems.{arguments-accepted, step-lengths}
-use Rattle.step.proofs.ResultLaws.{empty-written}
-use Rattle.step.specs.ActionResults.{headSize, bodyWritten, writeBody, changeResult, queryResult, ActionResult, actionResult}
+use Rattle.queries.proofs.QueryLaws.{empty-written}
+use Rattle.changes.specs.ChangeResults.{changeResult}
+use Rattle.queries.specs.QueryResults.{headSize, bodyWritten, writeBody, replyTo, queryResult}
+use Rattle.step.specs.ActionResults.{ActionResult, actionResult}
 
 -- ---- the head, written behind the body in time
 
@@ -151,7 +153,7 @@ module _ (b o : List ℕ) where
 
   pub action-headed : b ≡ encode (decode b) → (a : Action) → writeAnswer (stepAction (decode b) a) b o .written ≤ length o
       → writeAnswer (stepAction (decode b) a) b o ≡ headed (actionResult b a o)
-  unfolding stepAction actionResult changeResult queryResult firstNumber causeNumber
+  unfolding stepAction actionResult changeResult queryResult replyTo firstNumber causeNumber
   action-headed w (change c) h =
       let s : State = decode b in
       let cause : Option Cause = firstCause (changeRefusals s c) in

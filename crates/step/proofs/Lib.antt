@@ -1,14 +1,2 @@
-pub mod RefusalLaws
-pub mod ResultLaws
-pub mod ChangeRows
-pub mod SoundBoards
-pub mod AcceptedPlaces
-pub mod RecordReads
-pub mod StringReads
-pub mod BoardWrites
-pub mod PostUpdates
-pub mod BodyLaws
-pub mod ListWrites
-pub mod ListAnswers
 pub mod ActionLaws
 pub mod FrameLaws

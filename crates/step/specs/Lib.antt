@@ -1,3 +1,2 @@
 pub mod Results
 pub mod ActionResults
-pub mod Rights

@@ -1,15 +1,4 @@
 // The step: one message on a board.
-mod answers;
-mod creations;
-mod deletions;
-mod listings;
-mod lookups;
-mod readings;
-mod records;
-mod refusals;
-mod rows;
-mod updates;
-
 ghost use mathlib.Core.Path.{_≡_};
 ghost use Prim.Native.Nat.{_+_, _≤_};
 ghost use lib.ListN.{length};
@@ -20,36 +9,39 @@ ghost use Rattle.model.specs.Step.{answerLimit, stepOf};
 ghost use Rattle.model.proofs.SoundnessTheorems.{SoundState};
 ghost use Rattle.step.specs.ActionResults.{acted, actionResult};
 ghost use Rattle.step.specs.Results.{stepped};
-use crate::creations::accept_request;
-use crate::creations::create_post;
-use crate::creations::register_user;
-use crate::creations::request_friend;
-use crate::creations::request_registration;
-use crate::creations::start_system;
-use crate::deletions::end_friendship;
-use crate::listings::list_friends;
-use crate::listings::list_friends_of;
-use crate::listings::list_pending;
-use crate::listings::list_posts;
-use crate::listings::list_requests;
-use crate::listings::list_users;
-use crate::readings::read_admin;
-use crate::readings::read_owner;
-use crate::readings::read_pending;
-use crate::readings::read_picture;
-use crate::readings::read_request_from;
-use crate::readings::read_request_to;
-use crate::readings::read_text;
-use crate::readings::read_title;
-use crate::readings::read_user;
-use crate::readings::read_visibility;
-use crate::updates::update_picture;
-use crate::updates::update_text;
-use crate::updates::update_title;
-use crate::updates::update_user;
-use crate::updates::update_visibility;
 use board::sound;
+use changes::creations::accept_request;
+use changes::creations::create_post;
+use changes::creations::register_user;
+use changes::creations::request_friend;
+use changes::creations::request_registration;
+use changes::creations::start_system;
+use changes::deletions::end_friendship;
+use changes::updates::update_picture;
+use changes::updates::update_text;
+use changes::updates::update_title;
+use changes::updates::update_user;
+use changes::updates::update_visibility;
 use layout::number::write_u16;
+use queries::HEAD_SIZE;
+use queries::Reply;
+use queries::listings::list_friends;
+use queries::listings::list_friends_of;
+use queries::listings::list_pending;
+use queries::listings::list_posts;
+use queries::listings::list_requests;
+use queries::listings::list_users;
+use queries::readings::read_admin;
+use queries::readings::read_owner;
+use queries::readings::read_pending;
+use queries::readings::read_picture;
+use queries::readings::read_request_from;
+use queries::readings::read_request_to;
+use queries::readings::read_text;
+use queries::readings::read_title;
+use queries::readings::read_user;
+use queries::readings::read_visibility;
+use queries::without_body;
 use reader::Message;
 use reader::Refusal;
 use reader::Span;
@@ -59,19 +51,10 @@ use reader::frame::body;
 // The largest answer.
 pub const ANSWER_LIMIT: usize = 518;
 
-// The bytes of a frame before its body.
-const HEAD_SIZE: usize = 4;
-
 // The number that is returned, 0 for accepted, and the bytes written.
 pub struct Answer {
     pub number: u16,
     pub written: usize,
-}
-
-// The number, and the length of the answer's body.
-pub(crate) struct Reply {
-    pub(crate) number: u16,
-    pub(crate) len: usize,
 }
 
 fn refusal_number(refusal: Refusal) -> u16
@@ -82,13 +65,6 @@ fn refusal_number(refusal: Refusal) -> u16
         Refusal::Kind => 4,
         Refusal::Body => 5,
     }
-}
-
-// An answer without a body: a refusal, and "no body for changes".
-pub(crate) fn without_body(number: u16) -> Reply
-    ensures { λ r. ⌜ (r .number ≡ number) × (r .len ≡ 0) ⌝ }
-{
-    Reply { number, len: 0 }
 }
 
 // The string that a span of the body names.

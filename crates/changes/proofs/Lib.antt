@@ -1,0 +1,4 @@
+pub mod ChangeLaws
+pub mod ChangeRows
+pub mod BoardWrites
+pub mod PostUpdates

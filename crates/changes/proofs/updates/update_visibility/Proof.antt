@@ -1,0 +1,60 @@
+-- `update_visibility` meets its contract: the visibility is written at the place of an accepted post.
+use native.Mathlib.Omega.{arith}
+use lib.ListN.{length}
+use lib.Dec.{lit≤}
+use denote.Ref.{now}
+use borrow.Author.Needs.{needs}
+use Rattle.model.specs.State.{postLimit}
+use Rattle.model.specs.Board.{decode}
+use Rattle.model.specs.Refusals.{changeRefusals}
+use Rattle.model.proofs.ChangeWrites.{writes-uVisPost}
+use Rattle.changes.proofs.ChangeLaws.{change-refused}
+use Rattle.access.proofs.AcceptedPlaces.{PlaceWithin, post-place-within}
+use Rattle.changes.proofs.PostUpdates.{number-updated}
+use Rattle.changes.proofs.updates.update_visibility.Statement.{statement}
+use Rattle.changes.proofs.updates.update_visibility.Tie as tie
+
+returns : tie.Need-returns
+unfolding changeRefusals
+returns c = change-refused _ _ (c .before .post-refusal .ensures) (c .if1 .taken)
+
+abbrev entry : tie.After-post-place → tie.Start
+entry c = c .before .before .before .before .before .before
+
+within : (c : tie.After-post-place) → PlaceWithin (c .post-place .result) (length (decode (entry c .args .board .now) .posts)) postLimit
+within c =
+    post-place-within (entry c .pre .0) _ _ (c .before .before .if1 .left) _ _ (c .before .before .before .post-refusal .ensures)
+    (c .post-place .ensures)
+
+mul-at : tie.Need-mul-at
+mul-at c = omega (arith, within c)
+
+add-at : tie.Need-add-at
+add-at c = omega (arith, within c)
+
+add-write-u16 : tie.Need-add-write-u16
+add-write-u16 c = omega (arith, within (c .before))
+
+returns-2 : tie.Need-returns-2
+unfolding changeRefusals
+returns-2 c =
+    let d : tie.After-post-place = c .before .before .before .before in
+    number-updated (entry d .pre .0) _ (d .post-place .ensures) (within d) _
+    (d .before .before .before .post-refusal .ensures) (d .before .before .if1 .left) 10 2 _ (lit≤ tt)
+    (c .before .before .write-u16 .ensures)
+    (λ h. writes-uVisPost (entry d .pre .0 .encoded) _ _ _ h _ (entry d .pre .1))
+
+pub update-visibility-spec : {M : Type 1} → statement M
+update-visibility-spec =
+    tie.close
+    (tie.spec
+    (λ c κs. search needs)
+    (λ c. search needs)
+    returns
+    (λ c κs. search needs)
+    mul-at
+    add-at
+    add-write-u16
+    (λ c κs. search needs)
+    (λ c. search needs)
+    returns-2)

@@ -1,0 +1,31 @@
+// The action that deletes: 0301.
+ghost use mathlib.Core.Path.{_≡_};
+ghost use Rattle.model.specs.Actions.{dFriend};
+ghost use Rattle.model.proofs.SoundnessTheorems.{SoundState};
+ghost use Rattle.changes.specs.ChangeResults.{changed, changeResult};
+use crate::rows::clear_row_bit;
+use crate::rows::friends_at;
+use access::lookups::are_friends;
+use access::lookups::user_slot;
+use access::refusals::user_refusal;
+use reader::Login;
+
+// 0301, "on both sides"
+pub fn end_friendship(board: &mut [u8], login: Login, v: u32) -> u16
+    requires { ⌜ SoundState (now board) ⌝ }
+    ensures { λ r. ⌜ changed r (now (board .exit)) ≡ changeResult (now (board .entry)) (dFriend (login .user) (login .password) v) ⌝ }
+{
+    let u = login.user;
+    let number = user_refusal(board, login, v);
+    if number != 0 {
+        return number;
+    }
+    if !are_friends(board, u, v) {
+        return 9;
+    }
+    let i = user_slot(board, u);
+    let j = user_slot(board, v);
+    clear_row_bit(board, friends_at(i), j);
+    clear_row_bit(board, friends_at(j), i);
+    0
+}
