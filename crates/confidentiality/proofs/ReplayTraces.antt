@@ -1,31 +1,24 @@
 -- The trace of a replay and the trace of the run:
---     answer-framed, answer-accepted   an answer of the step is a frame with the number that the step returns, 0 where it accepts
+--     answer-accepted                  an answer of the step states number 0 where it accepts the message
 --     trace-events, board-done         wherever a replay stopped, its events are those of the messages it did, and so is its board
 --     valid-trace, replay-trace        with room to its end its trace is that of the run: from the board of a valid state, and from the
 --                                      empty board
-use Prim.Native.Nat.{ℕ, zero, suc, _+_, _<_}
+use Prim.Native.Nat.{ℕ, zero, suc, _+_}
 use native.Mathlib.Omega.{arith}
 use mathlib.Core.Path.{_≡_, refl, sym, ap, ap₂, _∙_, subst}
 use mathlib.Core.List.{List, [], _∷_, _++_, flatten, zipWith, append-assoc}
-use mathlib.Core.Option.{Option, some, none}
 use lib.ListN.{length, take, drop}
 use lib.Seq.{take-at, drop-at, take-all}
-use lib.Dec.{eqb, lit<}
+use lib.Dec.{eqb}
 use Rattle.layout.specs.Bytes.{patch}
-use Rattle.layout.proofs.TableLaws.{index-le}
-use Rattle.reader.specs.Frames.{lengthField, kindOf, frameBytes}
+use Rattle.reader.specs.Frames.{lengthField, kindOf}
 use Rattle.reader.proofs.FrameLaws.{length-frame, frame-kind, frame-stated}
 use Rattle.model.specs.State.{State, emptyState}
 use Rattle.model.specs.Board.{encode, emptyBoard}
-use Rattle.model.specs.Actions.{Cause, malformed, Action, change, query, refused, actionOf}
-use Rattle.model.specs.Refusals.{causeNumber, refusalOrder, changeRefusals, queryRefusals, firstCause}
-use Rattle.model.specs.Changes.{applyChange}
-use Rattle.model.specs.Answers.{answerBody}
-use Rattle.model.specs.Step.{Response, respond, stepAction, stepState}
+use Rattle.model.specs.Step.{stepState}
 use Rattle.model.specs.Replay.{framesOf, unread, runFrames, runOf, ReplayResult, replayOf}
-use Rattle.model.proofs.RefusalTheorems.{rank, rank-number}
 use Rattle.model.proofs.RuleLaws.{ValidState}
-use Rattle.model.proofs.AnswerLaws.{answer-short}
+use Rattle.model.proofs.AnswerLaws.{answer-framed, answer-short}
 use Rattle.model.proofs.Invariant.{step-valid, empty-valid}
 use Rattle.model.proofs.EmptyBoard.{empty-encoded}
 use Rattle.model.proofs.BufferLaws.{patch-start}
@@ -35,33 +28,6 @@ use Rattle.confidentiality.specs.Traces.{Event, runTrace, isAccepted, an
 use Rattle.confidentiality.proofs.Alignment.{eventsFrom}
 
 -- ---- an answer of the step
-
--- "the whole frame with number and body"
-pub record FramedAnswer (r : Response State) : Type 0 where
-  pub body : List ℕ
-  pub equal : r .answer ≡ frameBytes (r .number) body
-  pub in-range : r .number < 65536
-
-cause-in-range : (c : Cause) → causeNumber c < 65536
-unfolding rank
-cause-in-range c =
-    let e = rank-number c in
-    let h = index-le (causeNumber c) refusalOrder in
-    omega arith
-
-respond-framed : (c : Option Cause) (s next : State) (body : List ℕ) → FramedAnswer (respond c s next body)
-unfolding respond
-respond-framed none s next body = record { body = body; equal = refl; in-range = lit< tt }
-respond-framed (some c) s next body = record { body = []; equal = refl; in-range = cause-in-range c }
-
-pub answer-framed : (m : List ℕ) (s : State) → FramedAnswer (stepState m s)
-unfolding stepState stepAction
-answer-framed m s = by-action (actionOf m)
-  where
-    by-action : (a : Action) → FramedAnswer (stepAction s a)
-    by-action (change c) = respond-framed (firstCause (changeRefusals s c)) s (applyChange s c) []
-    by-action (query q) = respond-framed (firstCause (queryRefusals s q)) s s (answerBody s q)
-    by-action (refused refusal) = respond-framed (some (malformed refusal)) s s []
 
 -- it states the number, which is 0 where the message is accepted
 pub answer-accepted : (m : List ℕ) (s : State) → eqb (kindOf (stepState m s .answer)) 0 ≡ isAccepted m s

@@ -1,6 +1,7 @@
 pub mod BooleanLaws
 pub mod RangeLaws
 pub mod ByteLaws
+pub mod WrittenLaws
 pub mod ConcatenationLaws
 pub mod NumberLaws
 pub mod RunLaws

@@ -17,6 +17,18 @@ patch b at x = take at b ++ (x ++ drop (at + length x) b)
 unfoldable pub writeAt : List ℕ → ℕ → List ℕ → List ℕ
 writeAt b at x = cond (leb (at + length x) (length b)) (patch b at x) b
 
+-- what a function has returned, the count of bytes that it wrote, and left in the buffer
+pub record BytesWritten : Type 0 where
+  pub count : ℕ
+  pub buffer : List ℕ
+
+abbrev pub bytesWritten : ℕ → List ℕ → BytesWritten
+bytesWritten n b = record { count = n; buffer = b }
+
+-- x written to a place within b
+unfoldable pub putBytes : List ℕ → ℕ → List ℕ → BytesWritten
+putBytes b at x = bytesWritten (length x) (patch b at x)
+
 -- every byte is zero
 unfoldable pub allZero : List ℕ → Bool
 allZero [] = true

@@ -1,7 +1,8 @@
--- The lengths of answers:
+-- The lengths of answers, and their frames:
 --     answer-short    no answer is longer than 518 bytes; 64 posts reach it (`posts-written` of CaseTheorems)
 --     posts-answer    a list of posts takes 2 bytes and 8 for each post
-use Prim.Native.Nat.{ℕ, _+_, _*_, _≤_}
+--     answer-framed   an answer is a frame with the number that the step returns
+use Prim.Native.Nat.{ℕ, _+_, _*_, _≤_, _<_}
 use native.Mathlib.Nat.{zero-mul, suc-mul}
 use native.Mathlib.Omega.{arith}
 use mathlib.Core.Path.{_≡_, refl, sym, ap₂, _∙_}
@@ -15,7 +16,9 @@ use Rattle.layout.specs.Bits.{setPlaces}
 use Rattle.layout.proofs.NumberLaws.{length-to}
 use Rattle.layout.proofs.BitLaws.{places-le}
 use Rattle.layout.proofs.StringFieldLaws.{length-stringBytes}
+use Rattle.layout.proofs.TableLaws.{index-le}
 use Rattle.reader.specs.Fields.{nameLimit, infoLimit, titleLimit, textLimit, noteLimit}
+use Rattle.reader.specs.Frames.{frameBytes}
 use Rattle.reader.proofs.FrameLaws.{length-frame}
 use Rattle.model.specs.State.{User, Post, Pending, State, userLimit, postLimit, pendingLimit, userNumbers, pendingNumbers, userAt, postAt, pendingAt, noteAt}
 use Rattle.model.specs.Board.{userFields, postFields, pendingFields, noteFields}
@@ -23,15 +26,16 @@ use Rattle.model.specs.Lookups.{userSlot, postPlace, pendingPlace, userN
 use Rattle.model.specs.Actions.{Cause, malformed}
 use Rattle.model.specs.Actions.{Query, rUser, rNUReq, rAmIAdmin, rTitlePost, rTextPost, rImgPost, rVisPost, rOwnerPost, rFriendReqToMe, rFriendReqFromMe, lPendingUReqs, lAllUsers, lAllPosts, lFriendReqs, lFriends, lFriendsOf}
 use Rattle.model.specs.Actions.{Action, change, query, refused, actionOf}
-use Rattle.model.specs.Refusals.{causeNumber, changeRefusals, queryRefusals, firstCause}
+use Rattle.model.specs.Refusals.{causeNumber, refusalOrder, changeRefusals, queryRefusals, firstCause}
 use Rattle.model.specs.Changes.{applyChange}
 use Rattle.model.specs.Answers.{countedList, staffList, postEntry, usersIn, answerBody}
-use Rattle.model.specs.Step.{answerLimit, respond, stepAction, stepState}
+use Rattle.model.specs.Step.{answerLimit, Response, respond, stepAction, stepState}
 use Rattle.model.proofs.RecordTheorems.{userCodec, postCodec, pendingCodec}
 use Rattle.model.proofs.TableRecordLaws.{fits-count}
 use Rattle.model.proofs.BoardTheorems.{FittingState}
 use Rattle.model.proofs.StoredValues.{string-short, user-fits, post-fits, pending-fits, note-fits}
 use Rattle.model.proofs.RuleLaws.{ValidState}
+use Rattle.model.proofs.RefusalTheorems.{rank, rank-number}
 
 -- ---- lists with a count
 
@@ -140,3 +144,32 @@ answer-short msg s valid = by-action (actionOf msg)
     by-action (change c) = unfold stepAction in respond-short (firstCause (changeRefusals s c)) s (applyChange s c) [] (lit≤ tt)
     by-action (query q) = unfold stepAction in respond-short (firstCause (queryRefusals s q)) s s (answerBody s q) (body-short s (valid .fits) q)
     by-action (refused refusal) = unfold stepAction in respond-short (some (malformed refusal)) s s [] (lit≤ tt)
+
+-- ---- the frame of an answer
+
+-- "the whole frame with number and body"
+pub record FramedAnswer (r : Response State) : Type 0 where
+  pub body : List ℕ
+  pub equal : r .answer ≡ frameBytes (r .number) body
+  pub in-range : r .number < 65536
+
+cause-in-range : (c : Cause) → causeNumber c < 65536
+unfolding rank
+cause-in-range c =
+    let e = rank-number c in
+    let h = index-le (causeNumber c) refusalOrder in
+    omega arith
+
+respond-framed : (c : Option Cause) (s next : State) (body : List ℕ) → FramedAnswer (respond c s next body)
+unfolding respond
+respond-framed none s next body = record { body = body; equal = refl; in-range = lit< tt }
+respond-framed (some c) s next body = record { body = []; equal = refl; in-range = cause-in-range c }
+
+pub answer-framed : (m : List ℕ) (s : State) → FramedAnswer (stepState m s)
+unfolding stepState stepAction
+answer-framed m s = by-action (actionOf m)
+  where
+    by-action : (a : Action) → FramedAnswer (stepAction s a)
+    by-action (change c) = respond-framed (firstCause (changeRefusals s c)) s (applyChange s c) []
+    by-action (query q) = respond-framed (firstCause (queryRefusals s q)) s s (answerBody s q)
+    by-action (refused refusal) = respond-framed (some (malformed refusal)) s s []

@@ -7,21 +7,21 @@ use mathlib.Core.List.{List, [], _∷_, _++_, map, map-append, flatten, append-n
 use mathlib.Core.Bool.{true, false}
 use lib.ListN.{length, take, length-append, length-map}
 use lib.Seq.{length-take-le, take-all, take-suc}
-use Rattle.layout.specs.Bytes.{patch, writeAt}
+use Rattle.layout.specs.Bytes.{patch, writeAt, bytesWritten, putBytes}
 use Rattle.layout.specs.Numbers.{toLeBytes}
 use Rattle.layout.specs.Bits.{hasBit, setPlaces}
 use Rattle.layout.proofs.ByteLaws.{length-patch, length-write, write-within, patch-nil, patch-join}
 use Rattle.layout.proofs.BitLaws.{places-le, places-set, places-unset}
 use Rattle.layout.proofs.ConcatenationLaws.{flatten-append}
 use Rattle.layout.proofs.NumberLaws.{length-to}
+use Rattle.layout.proofs.WrittenLaws.{bytes-put, bytes-put-within, put-buffer, put-behind}
 use Rattle.reader.specs.Fields.{numberIn}
 use Rattle.model.specs.State.{Post, State, userLimit, postLimit, noPost, postAt}
 use Rattle.model.specs.Lookups.{ownerOf}
 use Rattle.model.specs.Answers.{countedList, staffList, postEntry}
 use Rattle.model.specs.Step.{answerLimit}
 use Rattle.model.proofs.AnswerLaws.{length-entries, length-post}
-use Rattle.queries.specs.QueryResults.{headSize, bodyWritten, writeBody}
-use Rattle.queries.proofs.BodyLaws.{body-written, body-written-within, written-buffer, written-behind}
+use Rattle.queries.specs.QueryResults.{headSize}
 
 -- before the first entry
 pub no-entries : {A : Type 0} (entry : A → List ℕ) (o : List ℕ) (from : ℕ) → o ≡ patch o from (flatten (map entry []))
@@ -50,15 +50,16 @@ module _ {A : Type 0} (entry : A → List ℕ) (width : ℕ) (same : (x : A) →
   -- the count and all entries
   list-written : (o : List ℕ) (xs : List A) {n r : ℕ} {o₁ o₂ : List ℕ} → n ≡ length xs → o₁ ≡ writeAt o headSize (toLeBytes 2 n)
       → o₂ ≡ patch o₁ (headSize + 2) (flatten (map entry xs)) → r ≡ 2 + length xs * width → headSize + r ≤ length o
-      → bodyWritten r o₂ ≡ writeBody o headSize (countedList entry xs)
+      → bytesWritten r o₂ ≡ putBytes o headSize (countedList entry xs)
   unfolding countedList
   list-written o xs {n} {r} {o₁} {o₂} k e f q h =
       let l = length-entries entry width same xs in
       let m = length-to 2 (length xs) in
-      ap (λ (i : ℕ). bodyWritten i o₂) (q ∙ ap (λ (i : ℕ). 2 + i) (sym l))
-      ∙ written-behind o headSize (toLeBytes 2 (length xs)) (flatten (map entry xs)) (omega arith)
-      (body-written-within o headSize (toLeBytes 2 (length xs)) (sym m) (omega arith) (e ∙ ap (λ (i : ℕ). writeAt o headSize (toLeBytes 2 i)) k))
-      (body-written o₁ (headSize + 2) (flatten (map entry xs)) refl f)
+      ap (λ (i : ℕ). bytesWritten i o₂) (q ∙ ap (λ (i : ℕ). 2 + i) (sym l))
+      ∙ put-behind o headSize (toLeBytes 2 (length xs)) (flatten (map entry xs)) (omega arith)
+      (bytes-put-within o headSize (toLeBytes 2 (length xs)) (sym m) (omega arith) (e ∙ ap (λ (i : ℕ). writeAt o headSize (toLeBytes 2 i)) k))
+      refl
+      (bytes-put o₁ (headSize + 2) (flatten (map entry xs)) refl f)
 
 -- ---- the numbers of the records of a table whose bits are set in a row
 
@@ -129,7 +130,7 @@ module _ {b : List ℕ} {base size row : ℕ} {o out : List ℕ} {at j : ℕ} (w
 
 pub numbers-all : {b : List ℕ} {base size row : ℕ} (o : List ℕ) {n at j : ℕ} {o₁ o₂ : List ℕ} → answerLimit ≤ length o
     → n ≡ length (setPlaces row userLimit) → o₁ ≡ writeAt o headSize (toLeBytes 2 n) → j ≡ userLimit → NumbersWritten b base size row o₁ o₂ at j
-    → bodyWritten (at - headSize) o₂ ≡ writeBody o headSize (staffList (map (λ (i : ℕ). numberIn b (base + i * size) 4) (setPlaces row userLimit)))
+    → bytesWritten (at - headSize) o₂ ≡ putBytes o headSize (staffList (map (λ (i : ℕ). numberIn b (base + i * size) 4) (setPlaces row userLimit)))
 unfolding numbersBelow staffList
 numbers-all {b} {base} {size} {row} o {at = at} {j = j} {o₁ = o₁} h v e z w =
     let xs : List ℕ = numbersBelow b base size row userLimit in
@@ -164,9 +165,9 @@ module _ (s : State) (o : List ℕ) (i : ℕ) {out : List ℕ} (e : out ≡ patc
       let more : take (i + 1) (s .posts) ≡ take i (s .posts) ++ (postAt s i ∷ []) =
       ap (λ (j : ℕ). take j (s .posts)) (add-one i) ∙ take-suc (s .posts) i noPost l
       in
-      written-buffer out at (x ++ y)
-      (written-behind out at x y (omega arith) (body-written-within out at x (sym lx) (omega arith) e₁)
-      (body-written-within out₁ (at + 4) y (sym ly) (omega arith) e₂))
+      put-buffer out at (x ++ y)
+      (put-behind out at x y (omega arith) (bytes-put-within out at x (sym lx) (omega arith) e₁) refl
+      (bytes-put-within out₁ (at + 4) y (sym ly) (omega arith) e₂))
       ∙ ap₂ (λ (j k : ℕ). patch out at (toLeBytes 4 j ++ toLeBytes 4 k)) en ev
       ∙ entry-added (postEntry s) 8 (length-post s) o (headSize + 2) (take i (s .posts)) e (postAt s i) (omega arith) (omega arith)
       ∙ ap (λ (ps : List Post). patch o (headSize + 2) (flatten (map (postEntry s) ps))) (sym more)
@@ -174,7 +175,7 @@ module _ (s : State) (o : List ℕ) (i : ℕ) {out : List ℕ} (e : out ≡ patc
 pub posts-all : (s : State) (o : List ℕ) (i : ℕ) {n : ℕ} {o₁ o₂ : List ℕ} → answerLimit ≤ length o → length (s .posts) ≤ postLimit
     → n ≡ length (s .posts) → o₁ ≡ writeAt o headSize (toLeBytes 2 n) → length (s .posts) ≤ i
     → o₂ ≡ patch o₁ (headSize + 2) (flatten (map (postEntry s) (take i (s .posts))))
-    → bodyWritten (2 + n * 8) o₂ ≡ writeBody o headSize (countedList (postEntry s) (s .posts))
+    → bytesWritten (2 + n * 8) o₂ ≡ putBytes o headSize (countedList (postEntry s) (s .posts))
 posts-all s o i {n} {o₁} h m v e l f =
     let q : 2 + n * 8 ≡ 2 + length (s .posts) * 8 = omega arith in
     list-written (postEntry s) 8 (length-post s) o (s .posts) v e

@@ -5,46 +5,42 @@ use mathlib.Core.List.{List, [], _++_}
 use mathlib.Core.Bool.{Bool, cond}
 use lib.Dec.{eqb}
 use borrow.Author.Tests.{eq-eqb, ne-eqb}
-use Rattle.layout.proofs.ByteLaws.{patch-nil}
+use Rattle.layout.specs.Bytes.{bytesWritten, putBytes}
+use Rattle.layout.proofs.WrittenLaws.{put-nothing}
 use Rattle.model.specs.Board.{decode}
 use Rattle.model.specs.Actions.{Query}
 use Rattle.model.specs.Refusals.{RefusalRow, queryRefusals, firstNumber}
 use Rattle.model.specs.Answers.{answerBody}
 use Rattle.access.proofs.RefusalLaws.{rows-pass}
-use Rattle.queries.specs.QueryResults.{headSize, bodyWritten, writeBody, QueryResult, replied, replyTo, queryResult}
+use Rattle.queries.specs.QueryResults.{headSize, QueryResult, replied, replyTo, queryResult}
 use Rattle.queries.specs.declared.Reply.{Reply}
-
--- an empty body leaves the buffer alone
-pub empty-written : (o : List ℕ) → writeBody o headSize [] ≡ bodyWritten 0 o
-unfolding writeBody
-empty-written o = ap (bodyWritten 0) (patch-nil o headSize)
 
 -- ---- by the rows and the body
 
 module _ (rows : List RefusalRow) (x o : List ℕ) (r : Reply) where
   abbrev resultFor : ℕ → Bool → QueryResult
-  resultFor k t = record { number = k; body = writeBody o headSize (cond t x []) }
+  resultFor k t = record { number = k; body = putBytes o headSize (cond t x []) }
 
   pub reply-refused : {k : ℕ} → (r .number ≡ k) × (r .len ≡ 0) → k ≡ firstNumber rows → (k ≡ 0 → ⊥) → replied r o ≡ replyTo rows x o
   unfolding replyTo
   reply-refused e f n =
-      (λ i. record { number = (e .0 ∙ f) i; body = (ap (λ (l : ℕ). bodyWritten l o) (e .1) ∙ sym (empty-written o)) i })
+      (λ i. record { number = (e .0 ∙ f) i; body = (ap (λ (l : ℕ). bytesWritten l o) (e .1) ∙ sym (put-nothing o headSize)) i })
       ∙ ap (resultFor (firstNumber rows)) (sym (ne-eqb (firstNumber rows) 0 (λ z. n (f ∙ z))))
 
   -- y is the body that the code has written
   pub reply-answered : {k : ℕ} {y after : List ℕ} → r .number ≡ 0 → k ≡ firstNumber rows → k ≡ 0
-      → bodyWritten (r .len) after ≡ writeBody o headSize y → y ≡ x → replied r after ≡ replyTo rows x o
+      → bytesWritten (r .len) after ≡ putBytes o headSize y → y ≡ x → replied r after ≡ replyTo rows x o
   unfolding replyTo
   reply-answered z f e w v =
       let accepted : firstNumber rows ≡ 0 = sym f ∙ e in
-      (λ i. record { number = (z ∙ sym accepted) i; body = (w ∙ ap (writeBody o headSize) v) i })
+      (λ i. record { number = (z ∙ sym accepted) i; body = (w ∙ ap (putBytes o headSize) v) i })
       ∙ ap (resultFor (firstNumber rows)) (sym (eq-eqb (firstNumber rows) 0 accepted))
 
 -- rows behind others that do not apply
 pub reply-behind : (earlier rows : List RefusalRow) (x o : List ℕ) → firstNumber earlier ≡ 0 → replyTo rows x o ≡ replyTo (earlier ++ rows) x o
 unfolding replyTo
 reply-behind earlier rows x o z =
-    ap (λ (k : ℕ). record { number = k; body = writeBody o headSize (cond (eqb k 0) x []) }) (sym (rows-pass earlier rows z))
+    ap (λ (k : ℕ). record { number = k; body = putBytes o headSize (cond (eqb k 0) x []) }) (sym (rows-pass earlier rows z))
 
 -- ---- by the query
 
@@ -55,6 +51,6 @@ module _ (b : List ℕ) (q : Query) (o : List ℕ) (r : Reply) where
   query-refused e f n = reply-refused (queryRefusals (decode b) q) (answerBody (decode b) q) o r e f n
 
   pub query-answered : {k : ℕ} {y after : List ℕ} → r .number ≡ 0 → k ≡ firstNumber (queryRefusals (decode b) q) → k ≡ 0
-      → bodyWritten (r .len) after ≡ writeBody o headSize y → y ≡ answerBody (decode b) q → replied r after ≡ queryResult b q o
+      → bytesWritten (r .len) after ≡ putBytes o headSize y → y ≡ answerBody (decode b) q → replied r after ≡ queryResult b q o
   unfolding queryResult
   query-answered z f e w v = reply-answered (queryRefusals (decode b) q) (answerBody (decode b) q) o r z f e w v

@@ -7,10 +7,11 @@ use mathlib.Core.Bool.{true}
 use lib.ListN.{length, getD}
 use lib.Dec.{lit<}
 use borrow.Author.Tests.{le-leb}
-use Rattle.layout.specs.Bytes.{bytesAt}
+use Rattle.layout.specs.Bytes.{bytesAt, bytesWritten, putBytes}
 use Rattle.layout.specs.StringFields.{isString, stringBytes, stringField}
 use Rattle.layout.proofs.ByteLaws.{length-bytesAt}
 use Rattle.layout.proofs.StringFieldLaws.{held-inside, held-length, held-string}
+use Rattle.layout.proofs.WrittenLaws.{put-count}
 use Rattle.reader.specs.Fields.{numberIn, nameLimit, infoLimit, titleLimit, textLimit, noteLimit}
 use Rattle.model.specs.Lists.{forAll}
 use Rattle.model.specs.State.{userLimit, userAt, postAt, pendingAt, noteAt}
@@ -20,8 +21,6 @@ use Rattle.model.proofs.StateRules.{storedFits}
 use Rattle.model.proofs.StoredValues.{string-short, user-fits, post-fits, pending-fits, note-fits}
 use Rattle.model.proofs.ReadingLaws.{read-user-name-field, read-user-info-field, read-post-title-field, read-post-text-field, read-pending-note-field, read-note-to}
 use Rattle.model.proofs.SoundnessTheorems.{SoundState}
-use Rattle.queries.specs.QueryResults.{bodyWritten, writeBody}
-use Rattle.queries.proofs.BodyLaws.{written-count}
 
 -- the string at a place of b is x: with its length it lies within b, and it is within its limit
 pub record StringHeld (b : List ℕ) (at limit : ℕ) (x : List ℕ) : Type 0 where
@@ -34,9 +33,9 @@ module _ {b x : List ℕ} {at limit : ℕ} (held : StringHeld b at limit x) wher
   pub held-room : length (bytesAt b at (2 + numberIn b at 2)) ≤ 2 + limit
   held-room = let l = held .short in omega (arith, length-bytesAt b at (2 + numberIn b at 2) (held .inside))
 
-  pub copied-count : (o : List ℕ) (to : ℕ) {n : ℕ} {o′ : List ℕ} → bodyWritten n o′ ≡ writeBody o to (bytesAt b at (2 + numberIn b at 2))
+  pub copied-count : (o : List ℕ) (to : ℕ) {n : ℕ} {o′ : List ℕ} → bytesWritten n o′ ≡ putBytes o to (bytesAt b at (2 + numberIn b at 2))
       → n ≤ 2 + limit
-  copied-count o to e = omega (arith, held-room, written-count o to (bytesAt b at (2 + numberIn b at 2)) e)
+  copied-count o to e = omega (arith, held-room, put-count o to (bytesAt b at (2 + numberIn b at 2)) e)
 
 -- it is x where x is the string in field k of a record that fits
 string-held : (b : List ℕ) (at : ℕ) (fields : List StoredField) (k limit : ℕ) (x : List ℕ) → forAll storedFits fields ≡ true

@@ -3,9 +3,8 @@
 use Prim.Native.Nat.{ℕ}
 use mathlib.Core.List.{List, []}
 use mathlib.Core.Bool.{cond}
-use lib.ListN.{length}
 use lib.Dec.{eqb}
-use Rattle.layout.specs.Bytes.{patch}
+use Rattle.layout.specs.Bytes.{BytesWritten, bytesWritten, putBytes}
 use Rattle.model.specs.Board.{decode}
 use Rattle.model.specs.Actions.{Query}
 use Rattle.model.specs.Refusals.{RefusalRow, queryRefusals, firstNumber}
@@ -16,33 +15,18 @@ use Rattle.queries.specs.declared.Reply.{Reply}
 abbrev pub headSize : ℕ
 headSize = 4
 
--- ---- bytes written to a buffer
-
-pub record BodyWritten : Type 0 where
-  pub len : ℕ
-  pub buffer : List ℕ
-
-abbrev pub bodyWritten : ℕ → List ℕ → BodyWritten
-bodyWritten n o = record { len = n; buffer = o }
-
--- x written to a place of o
-unfoldable pub writeBody : List ℕ → ℕ → List ℕ → BodyWritten
-writeBody o at x = bodyWritten (length x) (patch o at x)
-
--- ---- queries
-
 pub record QueryResult : Type 0 where
   pub number : ℕ
-  pub body : BodyWritten
+  pub body : BytesWritten
 
 abbrev pub replied : Reply → List ℕ → QueryResult
-replied r o = record { number = r .number; body = bodyWritten (r .len) o }
+replied r o = record { number = r .number; body = bytesWritten (r .len) o }
 
 -- the number of the first row that applies; the body is x where none does, and empty where one does
 unfoldable pub replyTo : List RefusalRow → List ℕ → List ℕ → QueryResult
 replyTo rows x o =
     let number : ℕ = firstNumber rows in
-    record { number = number; body = writeBody o headSize (cond (eqb number 0) x []) }
+    record { number = number; body = putBytes o headSize (cond (eqb number 0) x []) }
 
 unfoldable pub queryResult : List ℕ → Query → List ℕ → QueryResult
 queryResult b q o = replyTo (queryRefusals (decode b) q) (answerBody (decode b) q) o

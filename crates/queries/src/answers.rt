@@ -3,7 +3,7 @@ ghost use mathlib.Core.Path.{_≡_};
 ghost use mathlib.Core.List.{[], _∷_, map};
 ghost use Prim.Native.Nat.{_+_, _*_, _≤_};
 ghost use lib.ListN.{length};
-ghost use Rattle.layout.specs.Bytes.{bytesAt};
+ghost use Rattle.layout.specs.Bytes.{bytesAt, bytesWritten, putBytes};
 ghost use Rattle.layout.specs.Numbers.{toLeBytes};
 ghost use Rattle.layout.specs.Bits.{setPlaces};
 ghost use Rattle.reader.specs.Fields.{numberIn};
@@ -12,7 +12,7 @@ ghost use Rattle.model.specs.Board.{decode};
 ghost use Rattle.model.specs.Answers.{staffList, countedList, postEntry};
 ghost use Rattle.model.specs.Step.{answerLimit};
 ghost use Rattle.model.proofs.SoundnessTheorems.{SoundState};
-ghost use Rattle.queries.specs.QueryResults.{headSize, bodyWritten, writeBody};
+ghost use Rattle.queries.specs.QueryResults.{headSize};
 use crate::HEAD_SIZE;
 use access::records::post_count;
 use access::records::post_number;
@@ -30,7 +30,7 @@ use layout::run::write_bytes;
 // Copies the string at a place of the board, with its length, to a place of the buffer.
 pub(crate) fn copy_string(b: &[u8], at: usize, out: &mut [u8], to: usize) -> usize
     requires { ⌜ (at + (2 + numberIn (now b) at 2) ≤ length (now b)) × (to + (2 + numberIn (now b) at 2) ≤ length (now out)) ⌝ }
-    ensures { λ r. ⌜ bodyWritten r (now (out .exit)) ≡ writeBody (now (out .entry)) to (bytesAt (now (b .entry)) at (2 + numberIn (now (b .entry)) at 2)) ⌝ }
+    ensures { λ r. ⌜ bytesWritten r (now (out .exit)) ≡ putBytes (now (out .entry)) to (bytesAt (now (b .entry)) at (2 + numberIn (now (b .entry)) at 2)) ⌝ }
 {
     let n = read_u16(b, at) as usize;
     write_bytes(out, to, &b[at..at + 2 + n]);
@@ -40,7 +40,7 @@ pub(crate) fn copy_string(b: &[u8], at: usize, out: &mut [u8], to: usize) -> usi
 // A single byte, and a number of four, as the whole body.
 pub(crate) fn write_byte(out: &mut [u8], x: u8) -> usize
     requires { ⌜ answerLimit ≤ length (now out) ⌝ }
-    ensures { λ r. ⌜ bodyWritten r (now (out .exit)) ≡ writeBody (now (out .entry)) headSize (x ∷ []) ⌝ }
+    ensures { λ r. ⌜ bytesWritten r (now (out .exit)) ≡ putBytes (now (out .entry)) headSize (x ∷ []) ⌝ }
 {
     out[HEAD_SIZE] = x;
     1
@@ -48,7 +48,7 @@ pub(crate) fn write_byte(out: &mut [u8], x: u8) -> usize
 
 pub(crate) fn write_number(out: &mut [u8], x: u32) -> usize
     requires { ⌜ answerLimit ≤ length (now out) ⌝ }
-    ensures { λ r. ⌜ bodyWritten r (now (out .exit)) ≡ writeBody (now (out .entry)) headSize (toLeBytes 4 x) ⌝ }
+    ensures { λ r. ⌜ bytesWritten r (now (out .exit)) ≡ putBytes (now (out .entry)) headSize (toLeBytes 4 x) ⌝ }
 {
     write_u32(out, HEAD_SIZE, x);
     4
@@ -64,7 +64,7 @@ pub(crate) fn write_staff_list(
     out: &mut [u8],
 ) -> usize
     requires { ⌜ (4 ≤ size) × (base + userLimit * size ≤ length (now b)) × (answerLimit ≤ length (now out)) ⌝ }
-    ensures { λ r. ⌜ bodyWritten r (now (out .exit)) ≡ writeBody (now (out .entry)) headSize (staffList (map (λ j. numberIn (now (b .entry)) (base + j * size) 4) (setPlaces row userLimit))) ⌝ }
+    ensures { λ r. ⌜ bytesWritten r (now (out .exit)) ≡ putBytes (now (out .entry)) headSize (staffList (map (λ j. numberIn (now (b .entry)) (base + j * size) 4) (setPlaces row userLimit))) ⌝ }
 {
     write_u16(out, HEAD_SIZE, count_bits(row) as u16);
     let mut at = HEAD_SIZE + 2;
@@ -82,7 +82,7 @@ pub(crate) fn write_staff_list(
 // "posts, each number followed by its owner's"
 pub(crate) fn write_post_list(b: &[u8], out: &mut [u8]) -> usize
     requires { ⌜ SoundState (now b) × (answerLimit ≤ length (now out)) ⌝ }
-    ensures { λ r. ⌜ bodyWritten r (now (out .exit)) ≡ writeBody (now (out .entry)) headSize (countedList (postEntry (decode (now (b .entry)))) (decode (now (b .entry)) .posts)) ⌝ }
+    ensures { λ r. ⌜ bytesWritten r (now (out .exit)) ≡ putBytes (now (out .entry)) headSize (countedList (postEntry (decode (now (b .entry)))) (decode (now (b .entry)) .posts)) ⌝ }
 {
     let m = post_count(b);
     write_u16(out, HEAD_SIZE, m as u16);

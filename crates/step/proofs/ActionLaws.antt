@@ -6,7 +6,7 @@ use mathlib.Core.List.{List}
 use mathlib.Core.Bool.{true}
 use lib.ListN.{length}
 use borrow.Author.Tests.{le-leb}
-use Rattle.layout.specs.Bytes.{bytesAt}
+use Rattle.layout.specs.Bytes.{bytesAt, bytesWritten}
 use Rattle.layout.specs.StringFields.{isString}
 use Rattle.layout.proofs.ByteLaws.{length-bytesAt}
 use Rattle.layout.proofs.StringFieldLaws.{string-by}
@@ -23,7 +23,7 @@ use Rattle.model.specs.Actions.{Change, Query, Action, change, query, refused, 
 use Rattle.model.proofs.ActionLaws.{ActionFits, action-fits}
 use Rattle.model.proofs.EnumActions.{enumAction, enum-action}
 use Rattle.changes.specs.ChangeResults.{changed, changeResult}
-use Rattle.queries.specs.QueryResults.{bodyWritten, replied, queryResult}
+use Rattle.queries.specs.QueryResults.{replied, queryResult}
 use Rattle.step.specs.ActionResults.{ActionResult, acted, actionResult}
 use Rattle.queries.specs.declared.Reply.{Reply}
 
@@ -46,7 +46,7 @@ module _ (b o : List ℕ) {msg : List ℕ} {m : Message} (d : Decoded msg m) whe
   unfolding actionResult
   change-acted {r = r} f h g =
       of-message f (λ i. record {
-        reply = record { number = (g .0 ∙ ap (λ x. x .number) h) i; body = bodyWritten ((g .1) i) o };
+        reply = record { number = (g .0 ∙ ap (λ x. x .number) h) i; body = bytesWritten ((g .1) i) o };
         board = ap (λ x. x .board) h i;
       })
 
@@ -58,7 +58,7 @@ module _ (b o : List ℕ) {msg : List ℕ} {m : Message} (d : Decoded msg m) whe
   pub refusal-acted : {r : Reply} {refusal : Refusal} {number : ℕ} → enumAction (bodyOf msg) m ≡ refused refusal → number ≡ refusalNumber refusal
       → (r .number ≡ number) × (r .len ≡ 0) → acted r b o ≡ actionResult b (actionOf msg) o
   unfolding actionResult
-  refusal-acted {r = r} f h g = of-message f (λ i. record { reply = record { number = (g .0 ∙ h) i; body = bodyWritten ((g .1) i) o }; board = b })
+  refusal-acted {r = r} f h g = of-message f (λ i. record { reply = record { number = (g .0 ∙ h) i; body = bytesWritten ((g .1) i) o }; board = b })
 
 -- ---- the fields of a message
 

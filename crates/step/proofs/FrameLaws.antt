@@ -10,11 +10,12 @@ use lib.Seq.{length-take-le, drop-at}
 use lib.Dec.{eqb}
 use lib.Pow.{areBytes}
 use borrow.Author.Tests.{ne-eqb}
-use Rattle.layout.specs.Bytes.{patch, writeAt}
+use Rattle.layout.specs.Bytes.{patch, writeAt, bytesWritten, putBytes}
 use Rattle.layout.specs.Numbers.{toLeBytes}
 use Rattle.layout.proofs.ByteLaws.{patch-join, length-patch, write-within, length-write}
 use Rattle.layout.proofs.NumberLaws.{length-to}
 use Rattle.layout.proofs.BooleanLaws.{cond-same}
+use Rattle.layout.proofs.WrittenLaws.{put-nothing}
 use Rattle.reader.specs.Frames.{frameBytes}
 use Rattle.model.specs.State.{State}
 use Rattle.model.specs.Board.{encode, decode}
@@ -28,9 +29,8 @@ use Rattle.model.proofs.RefusalTheorems.{rank-number}
 use Rattle.model.proofs.BufferLaws.{patch-start}
 use Rattle.model.proofs.SoundnessTheorems.{sound-state}
 use Rattle.model.proofs.StepTheorems.{arguments-accepted, step-lengths}
-use Rattle.queries.proofs.QueryLaws.{empty-written}
 use Rattle.changes.specs.ChangeResults.{changeResult}
-use Rattle.queries.specs.QueryResults.{headSize, bodyWritten, writeBody, replyTo, queryResult}
+use Rattle.queries.specs.QueryResults.{headSize, replyTo, queryResult}
 use Rattle.step.specs.ActionResults.{ActionResult, actionResult}
 
 -- ---- the head, written behind the body in time
@@ -81,9 +81,9 @@ head-written o number body h =
 abbrev pub headed : ActionResult → StepResult
 headed x = record {
   number = x .reply .number;
-  written = headSize + x .reply .body .len;
+  written = headSize + x .reply .body .count;
   board = x .board;
-  buffer = withHead (x .reply .body .buffer) (x .reply .number) (x .reply .body .len);
+  buffer = withHead (x .reply .body .buffer) (x .reply .number) (x .reply .body .count);
 }
 
 -- a response is the frame of its number, whose body is empty where a cause applies
@@ -120,10 +120,10 @@ module _ (b o : List ℕ) where
   -- a frame within the buffer is the head in front of its body
   frame-headed : (number : ℕ) (next : State) (body : List ℕ) → frameResult number next body b o .written ≤ length o
       → frameResult number next body b o ≡ headed (record {
-        reply = record { number = number; body = writeBody o headSize (cond (eqb number 0) body []) };
+        reply = record { number = number; body = putBytes o headSize (cond (eqb number 0) body []) };
         board = cond (eqb number 0) (encode next) b;
       })
-  unfolding writeBody
+  unfolding putBytes
   frame-headed number next body h =
       let shown : List ℕ = cond (eqb number 0) body [] in
       λ i. record {
@@ -136,7 +136,7 @@ module _ (b o : List ℕ) where
   response-headed : (cause : Option Cause) (s next : State) (body : List ℕ) → writeAnswer (respond cause s next body) b o .written ≤ length o
       → let number : ℕ = numberReturned cause in
       writeAnswer (respond cause s next body) b o ≡ headed (record {
-        reply = record { number = number; body = writeBody o headSize (cond (eqb number 0) body []) };
+        reply = record { number = number; body = putBytes o headSize (cond (eqb number 0) body []) };
         board = cond (eqb number 0) (encode next) b;
       })
   response-headed cause s next body h =
@@ -145,10 +145,10 @@ module _ (b o : List ℕ) where
 
   -- no body
   none-headed : (number : ℕ) (t : Bool) (after : List ℕ)
-      → headed (record { reply = record { number = number; body = writeBody o headSize (cond t [] []) }; board = after })
-      ≡ headed (record { reply = record { number = number; body = bodyWritten 0 o }; board = after })
+      → headed (record { reply = record { number = number; body = putBytes o headSize (cond t [] []) }; board = after })
+      ≡ headed (record { reply = record { number = number; body = bytesWritten 0 o }; board = after })
   none-headed number t after =
-      let e : writeBody o headSize (cond t [] []) ≡ bodyWritten 0 o = ap (writeBody o headSize) (cond-same t []) ∙ empty-written o in
+      let e : putBytes o headSize (cond t [] []) ≡ bytesWritten 0 o = ap (putBytes o headSize) (cond-same t []) ∙ put-nothing o headSize in
       λ i. headed (record { reply = record { number = number; body = e i }; board = after })
 
   pub action-headed : b ≡ encode (decode b) → (a : Action) → writeAnswer (stepAction (decode b) a) b o .written ≤ length o
@@ -171,7 +171,7 @@ module _ (b o : List ℕ) where
       let n : ℕ = causeNumber (malformed refusal) in
       let kept : cond (eqb n 0) (encode s) b ≡ b = ap (λ (x : List ℕ). cond (eqb n 0) x b) (sym w) ∙ cond-same (eqb n 0) b in
       response-headed (some (malformed refusal)) s s [] h ∙ none-headed n (eqb n 0) (cond (eqb n 0) (encode s) b)
-      ∙ (λ i. headed (record { reply = record { number = n; body = bodyWritten 0 o }; board = kept i }))
+      ∙ (λ i. headed (record { reply = record { number = n; body = bytesWritten 0 o }; board = kept i }))
 
 -- ---- a sound board and a buffer with room
 
@@ -183,5 +183,5 @@ module _ (msg b o : List ℕ) (y : areBytes b ≡ true) (e : isSound b ≡ true)
       accepted ∙ action-headed b o (sound-state b y e .encoded .bytes) (actionOf msg)
       (subst (λ (r : StepResult). r .written ≤ length o) accepted (step-lengths msg b o y .inside))
 
-  pub action-short : headSize + actionResult b (actionOf msg) o .reply .body .len ≤ answerLimit
+  pub action-short : headSize + actionResult b (actionOf msg) o .reply .body .count ≤ answerLimit
   action-short = subst (λ (r : StepResult). r .written ≤ answerLimit) step-headed (step-lengths msg b o y .short)

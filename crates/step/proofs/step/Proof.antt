@@ -53,7 +53,7 @@ body-short : (c : tie.After-act) → 4 + c .act .result .len ≤ answerLimit
 body-short c =
     let d = c .before .before .before in
     let a = d .before .before .before .before .before .before .before .args in
-    subst (λ (x : ActionResult). 4 + x .reply .body .len ≤ answerLimit) (sym (c .act .ensures))
+    subst (λ (x : ActionResult). 4 + x .reply .body .count ≤ answerLimit) (sym (c .act .ensures))
     (action-short (a .msg .now) (boardAt d) (bufferAt d) (board-bytes d) (board-sound d) (room d))
 
 add-write-u16 : tie.Need-add-write-u16

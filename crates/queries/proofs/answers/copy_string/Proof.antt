@@ -6,8 +6,8 @@ use mathlib.Core.List.{List}
 use borrow.Author.Needs.{needs}
 use Rattle.layout.specs.Bytes.{bytesAt, writeAt}
 use Rattle.layout.proofs.ByteLaws.{length-bytesAt}
+use Rattle.layout.proofs.WrittenLaws.{bytes-put-within}
 use Rattle.reader.specs.Fields.{numberIn}
-use Rattle.queries.proofs.BodyLaws.{body-written-within}
 use Rattle.queries.proofs.answers.copy_string.Statement.{statement}
 use Rattle.queries.proofs.answers.copy_string.Tie as tie
 
@@ -20,7 +20,7 @@ returns c =
     let b : List ℕ = a .b .now in
     let stated : r .read-u16 .result ≡ numberIn b (a .at) 2 = r .read-u16 .ensures in
     let size : a .at + 2 + r .read-u16 .result - a .at ≡ 2 + numberIn b (a .at) 2 = omega arith in
-    body-written-within (a .out .now) (a .to) (bytesAt b (a .at) (2 + numberIn b (a .at) 2))
+    bytes-put-within (a .out .now) (a .to) (bytesAt b (a .at) (2 + numberIn b (a .at) 2))
     (ap (λ (n : ℕ). 2 + n) stated ∙ sym (length-bytesAt b (a .at) (2 + numberIn b (a .at) 2) (omega arith))) (omega arith)
     (c .before .before .write-bytes .ensures ∙ ap (writeAt (a .out .now) (a .to)) (ap (bytesAt b (a .at)) size))
 

@@ -5,13 +5,13 @@ use mathlib.Core.Path.{refl, ap₂}
 use mathlib.Core.List.{List, _++_}
 use borrow.Author.Needs.{needs}
 use Rattle.layout.specs.StringFields.{stringBytes}
+use Rattle.layout.proofs.WrittenLaws.{put-behind}
 use Rattle.reader.specs.Fields.{nameLimit, infoLimit}
 use Rattle.model.specs.State.{User, userAt}
 use Rattle.model.specs.Board.{decode}
 use Rattle.model.specs.Refusals.{queryRefusals}
 use Rattle.model.specs.Answers.{answerBody}
 use Rattle.queries.proofs.QueryLaws.{query-refused, query-answered}
-use Rattle.queries.proofs.BodyLaws.{written-behind}
 use Rattle.access.proofs.AcceptedPlaces.{SlotWithin, slots-within}
 use Rattle.access.proofs.RecordReads.{numbered-user}
 use Rattle.queries.proofs.StringReads.{StringHeld, held-room, copied-count, name-held, info-held}
@@ -89,7 +89,7 @@ returns-2 c =
     let n = held-room (name slot) in
     let i = held-room (info slot) in
     query-answered _ _ _ _ refl (slot .before .before .user-refusal .ensures) (slot .before .if1 .left)
-    (written-behind _ _ _ _ (omega arith) (first .copy-string .ensures) (second .copy-string2 .ensures))
+    (put-behind _ _ _ _ (omega arith) (first .copy-string .ensures) refl (second .copy-string2 .ensures))
     (ap₂ (λ (x y : List ℕ). x ++ y)
     (numbered-user _ _ (λ (x : User). stringBytes (x .name)) (slot .user-slot .ensures) (name slot .content))
     (numbered-user _ _ (λ (x : User). stringBytes (x .info)) (slot .user-slot .ensures) (info slot .content)))
