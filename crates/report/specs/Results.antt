@@ -1,0 +1,32 @@
+-- What `lines` has returned, and left in the text buffer.
+use Prim.Native.Nat.{ℕ}
+use mathlib.Core.List.{List}
+use mathlib.Core.Bool.{cond}
+use mathlib.Core.Option.{Option, some, none}
+use lib.ListN.{length}
+use lib.Dec.{ltb}
+use Rattle.layout.specs.Bytes.{patch}
+use Rattle.report.specs.Report.{reportOf}
+use Rattle.report.specs.declared.Report.{Report}
+use Rattle.report.specs.declared.Report.the-variants.{Written, TooShort}
+
+-- no text is longer (`report-short` of ReportLaws): 15,000 lines of at most fourteen bytes, and one of ten
+abbrev pub textLimit : ℕ
+textLimit = 210010
+
+pub record ReportResult : Type 0 where
+  pub size : Option ℕ
+  pub text : List ℕ
+
+-- how many bytes were written, none where the text buffer is too short
+abbrev pub reportSize : Report → Option ℕ
+reportSize (Written n) = some n
+reportSize TooShort = none
+
+abbrev pub reported : Report → List ℕ → ReportResult
+reported r t = record { size = reportSize r; text = t }
+
+-- a text buffer that is too short is left as it was; in one that is not, the text stands first, and the bytes behind it are as they were
+unfoldable pub reportResult : List ℕ → List ℕ → ReportResult
+reportResult j t =
+    cond (ltb (length t) textLimit) (record { size = none; text = t }) (record { size = some (length (reportOf j)); text = patch t 0 (reportOf j) })
