@@ -2,7 +2,7 @@
 use Prim.Native.Nat.{ℕ, _+_, _≤_}
 use native.Mathlib.Omega.{arith}
 use mathlib.Core.Path.{_≡_, refl, sym, ap, _∙_}
-use mathlib.Core.List.{List, _++_, append-assoc}
+use mathlib.Core.List.{List, _++_}
 use mathlib.Core.Bool.{Bool, true, false, cond}
 use lib.ListN.{length, length-append, length-drop}
 use lib.Dec.{ltb, lit≤}
@@ -31,54 +31,55 @@ pub length-decimal : (n : ℕ) → length (decimal n) ≤ 5
 unfolding decimal
 length-decimal n = let l = count-within n in simp length-drop (omega arith)
 
-pub decimal-size : (t : List ℕ) (at n : ℕ) {len : ℕ} {t′ : List ℕ} → bytesWritten len t′ ≡ putBytes t at (decimal n) → len ≤ 5
-decimal-size t at n e = let l = length-decimal n in omega (arith, put-count t at (decimal n) e)
+-- a number and a line feed
+length-ended : (n : ℕ) → length (decimal n ++ lineFeed) ≤ 6
+length-ended n = let d = length-decimal n in let l = length-append (decimal n) lineFeed in omega arith
 
-module _ (t : List ℕ) (at : ℕ) (word : List ℕ) where
-  -- a word, a number, a line feed
-  word-ended : (n : ℕ) {k len : ℕ} {t₁ t₂ t₃ : List ℕ} → at + (length word + 6) ≤ length t → bytesWritten k t₁ ≡ putBytes t at word
-      → bytesWritten len t₂ ≡ putBytes t₁ (at + k) (decimal n) → t₃ ≡ writeAt t₂ (at + k + len) lineFeed
-      → bytesWritten (k + len + 1) t₃ ≡ putBytes t at (word ++ (decimal n ++ lineFeed))
-  word-ended n {k} {len} {t₁} {t₂} h e₁ e₂ e₃ =
+module _ (t : List ℕ) (at : ℕ) where
+  pub decimal-count : (n : ℕ) {len : ℕ} {t′ : List ℕ} → bytesWritten len t′ ≡ putBytes t at (decimal n) → len ≤ 5
+  decimal-count n e = let l = length-decimal n in omega (arith, put-count t at (decimal n) e)
+
+  pub ended-count : (n : ℕ) {len : ℕ} {t′ : List ℕ} → bytesWritten len t′ ≡ putBytes t at (decimal n ++ lineFeed) → len ≤ 6
+  ended-count n e = let l = length-ended n in omega (arith, put-count t at (decimal n ++ lineFeed) e)
+
+  pub line-ended : (n : ℕ) {len : ℕ} {t₁ t₂ : List ℕ} → at + 6 ≤ length t → bytesWritten len t₁ ≡ putBytes t at (decimal n)
+      → t₂ ≡ writeAt t₁ (at + len) lineFeed → bytesWritten (len + 1) t₂ ≡ putBytes t at (decimal n ++ lineFeed)
+  line-ended n {len} {t₁} h e f =
       let d = length-decimal n in
-      let s₁ = put-count t at word e₁ in
-      let s₂ = put-count t₁ (at + k) (decimal n) e₂ in
-      let l₁ = put-length t at word (omega arith) e₁ in
-      let l₂ = put-length t₁ (at + k) (decimal n) (omega arith) e₂ in
-      let both = put-behind t at word (decimal n) (omega arith) e₁ refl e₂ in
-      let last = bytes-put-within t₂ (at + k + len) lineFeed refl (omega arith) e₃ in
-      let place : at + k + len ≡ at + (k + len) = omega arith in
-      let l = length-append word (decimal n) in
-      put-behind t at (word ++ decimal n) lineFeed (omega arith) both place last ∙ ap (putBytes t at) (append-assoc word (decimal n) lineFeed)
+      let s = put-count t at (decimal n) e in
+      let l = put-length t at (decimal n) (omega arith) e in
+      put-behind t at (decimal n) lineFeed (omega arith) e refl (bytes-put-within t₁ (at + len) lineFeed refl (omega arith) f)
 
--- "cut ", a place, a line feed; and a word of three characters, a kind, a space, a number and a line feed
-pub cut-written : (t : List ℕ) (at place : ℕ) {len : ℕ} {t₁ t₂ t₃ : List ℕ} → at + 10 ≤ length t → t₁ ≡ writeAt t at (cutWord ++ space)
-    → bytesWritten len t₂ ≡ putBytes t₁ (at + 4) (decimal place) → t₃ ≡ writeAt t₂ (at + 4 + len) lineFeed
-    → bytesWritten (5 + len) t₃ ≡ putBytes t at (cutLine place)
-unfolding cutLine
-cut-written t at place {len} {t₃ = t₃} h e₁ e₂ e₃ =
-    let size : 5 + len ≡ 4 + len + 1 = omega arith in
-    ap (λ (n : ℕ). bytesWritten n t₃) size
-    ∙ word-ended t at (cutWord ++ space) place (omega arith) (bytes-put-within t at (cutWord ++ space) refl (omega arith) e₁) e₂ e₃
+  -- "cut ", a place and a line feed
+  pub cut-written : (place : ℕ) {len : ℕ} {t₁ t₂ : List ℕ} → at + 10 ≤ length t → t₁ ≡ writeAt t at (cutWord ++ space)
+      → bytesWritten len t₂ ≡ putBytes t₁ (at + 4) (decimal place ++ lineFeed) → bytesWritten (4 + len) t₂ ≡ putBytes t at (cutLine place)
+  unfolding cutLine
+  cut-written place h e f =
+      let d = length-ended place in
+      put-behind t at (cutWord ++ space) (decimal place ++ lineFeed) (omega arith) (bytes-put-within t at (cutWord ++ space) refl (omega arith) e) refl f
 
-pub line-written : (t : List ℕ) (at : ℕ) (word : List ℕ) (kind n : ℕ) {k len : ℕ} {t₁ t₂ t₃ t₄ t₅ : List ℕ} → at + 14 ≤ length t
-    → length word ≡ 3 → t₁ ≡ writeAt t at word → bytesWritten k t₂ ≡ putBytes t₁ (at + 3) (hexadecimal kind)
-    → t₃ ≡ writeAt t₂ (at + 7) space → bytesWritten len t₄ ≡ putBytes t₃ (at + 8) (decimal n) → t₅ ≡ writeAt t₄ (at + 8 + len) lineFeed
-    → bytesWritten (9 + len) t₅ ≡ putBytes t at (word ++ (hexadecimal kind ++ (space ++ (decimal n ++ lineFeed))))
-line-written t at word kind n {k} {len} {t₁} {t₂} {t₅ = t₅} h l e₁ e₂ e₃ e₄ e₅ =
-    let x : List ℕ = hexadecimal kind in
-    let lx = length-hexadecimal kind in
-    let first = bytes-put-within t at word {n = 3} (sym l) (omega arith) e₁ in
-    let l₁ = put-length t at word (omega arith) first in
-    let sk = put-count t₁ (at + 3) x e₂ in
-    let l₂ = put-length t₁ (at + 3) x (omega arith) e₂ in
-    let two = put-behind t at word x (omega arith) first refl e₂ in
-    let place : at + 7 ≡ at + (3 + k) = omega arith in
-    let lw = length-append word x in
-    let three = put-behind t at (word ++ x) space (omega arith) two place (bytes-put-within t₂ (at + 7) space refl (omega arith) e₃) in
-    let eight : 3 + k + 1 ≡ 8 = omega arith in
-    let l3 = length-append (word ++ x) space in
-    let size : 9 + len ≡ 8 + len + 1 = omega arith in
-    ap (λ (m : ℕ). bytesWritten m t₅) size
-    ∙ word-ended t at ((word ++ x) ++ space) n (omega arith) (rw eight at three) e₄ e₅
-    ∙ ap (putBytes t at) (simp append-assoc)
+  -- a word of three characters, a kind, a space, a number and a line feed
+  pub line-written : (word : List ℕ) (kind n : ℕ) {k len : ℕ} {t₁ t₂ t₃ t₄ : List ℕ} → at + 14 ≤ length t → length word ≡ 3
+      → t₁ ≡ writeAt t at word → bytesWritten k t₂ ≡ putBytes t₁ (at + 3) (hexadecimal kind) → t₃ ≡ writeAt t₂ (at + 7) space
+      → bytesWritten len t₄ ≡ putBytes t₃ (at + 8) (decimal n ++ lineFeed)
+      → bytesWritten (8 + len) t₄ ≡ putBytes t at (word ++ (hexadecimal kind ++ (space ++ (decimal n ++ lineFeed))))
+  line-written word kind n {k} {len} {t₁} {t₂} {t₃} {t₄} h l e₁ e₂ e₃ e₄ =
+      let x : List ℕ = hexadecimal kind in
+      let y : List ℕ = decimal n ++ lineFeed in
+      let lx = length-hexadecimal kind in
+      let ly = length-ended n in
+      let first = bytes-put-within t at word {n = 3} (sym l) (omega arith) e₁ in
+      let l₁ = put-length t at word (omega arith) first in
+      let four = put-count t₁ (at + 3) x e₂ in
+      let l₂ = put-length t₁ (at + 3) x (omega arith) e₂ in
+      let gap = bytes-put-within t₂ (at + 7) space {n = 1} refl (omega arith) e₃ in
+      let l₃ = put-length t₂ (at + 7) space (omega arith) gap in
+      let place : at + 8 ≡ at + 7 + 1 = omega arith in
+      let later = put-behind t₂ (at + 7) space y (omega arith) gap place e₄ in
+      let ls = length-append space y in
+      let behind : at + 7 ≡ at + 3 + k = omega arith in
+      let rest = put-behind t₁ (at + 3) x (space ++ y) (omega arith) e₂ behind later in
+      let lr = length-append x (space ++ y) in
+      let whole = put-behind t at word (x ++ (space ++ y)) (omega arith) first refl rest in
+      let size : 8 + len ≡ 3 + (k + (1 + len)) = omega arith in
+      ap (λ (m : ℕ). bytesWritten m t₄) size ∙ whole

@@ -67,6 +67,16 @@ fn write_decimal(text: &mut [u8], at: usize, n: usize) -> usize
     count
 }
 
+// A number, and the line feed that ends its line.
+fn write_line_end(text: &mut [u8], at: usize, n: usize) -> usize
+    requires { ⌜ at + 6 ≤ length (now text) ⌝ }
+    ensures { λ r. ⌜ bytesWritten r (now (text .exit)) ≡ putBytes (now (text .entry)) at (decimal n ++ lineFeed) ⌝ }
+{
+    let len = write_decimal(text, at, n);
+    write_bytes(text, at + len, b"\n");
+    len + 1
+}
+
 // A word of two letters and a space, a kind, a number.
 fn write_line(text: &mut [u8], at: usize, word: &[u8], kind: usize, n: usize) -> usize
     requires { ⌜ (at + 14 ≤ length (now text)) × (length (now word) ≡ 3) ⌝ }
@@ -75,9 +85,8 @@ fn write_line(text: &mut [u8], at: usize, word: &[u8], kind: usize, n: usize) ->
     write_bytes(text, at, word);
     write_hexadecimal(text, at + 3, kind);
     write_bytes(text, at + 7, b" ");
-    let len = write_decimal(text, at + 8, n);
-    write_bytes(text, at + 8 + len, b"\n");
-    9 + len
+    let end = write_line_end(text, at + 8, n);
+    8 + end
 }
 
 // "`ok` or `no`, then the message's kind .., then the length of the answer's body or the refusal"
@@ -103,7 +112,6 @@ pub(crate) fn write_cut(text: &mut [u8], at: usize, place: usize) -> usize
     ensures { λ r. ⌜ bytesWritten r (now (text .exit)) ≡ putBytes (now (text .entry)) at (cutLine place) ⌝ }
 {
     write_bytes(text, at, b"cut ");
-    let len = write_decimal(text, at + 4, place);
-    write_bytes(text, at + 4 + len, b"\n");
-    5 + len
+    let end = write_line_end(text, at + 4, place);
+    4 + end
 }
