@@ -1,14 +1,16 @@
--- Laws of parts read (`bytesAt`), parts written (`patch`, `writeAt`) and runs of zeros.
+-- Laws of parts read (`bytesAt`), parts written (`patch`, `writeAt`), runs of zeros, and rests that are lent.
 use Prim.Native.Nat.{ℕ, zero, suc, _+_, _-_, _≤_, _<_}
 use native.Mathlib.Nat.{add-zero, add-assoc, sub-zero, zero-sub, suc-sub-suc}
 use native.Mathlib.Numerals.{add-one}
 use native.Mathlib.Omega.{arith}
 use mathlib.Core.Path.{_≡_, refl, sym, ap, ap₂, _∙_}
-use mathlib.Core.List.{List, [], _∷_, _++_, append-assoc}
+use mathlib.Core.List.{List, [], _∷_, _++_, append-assoc, append-nil}
 use mathlib.Core.Bool.{Bool, true, false, _&&_, cond, and-assoc, not}
 use lib.ListN.{length, take, drop, getD, set, replicate, length-append, length-drop, take-append-drop}
-use lib.Seq.{length-take-le, take-all, take-nil, take-take, take-add, drop-drop, drop-cons, take-at, take-append-add, take-append-le, drop-append-add, drop-append-le, set-split}
+use lib.Seq.{length-take-le, take-all, take-nil, take-take, take-add, drop-drop, drop-cons, take-at, take-append-add, take-append-le, drop-append-add, drop-append-le, drop-length, set-split}
 use lib.Dec.{eqb, leb}
+use borrow.Rule.Slice.PartAt.{part-to-end}
+use borrow.Rule.Slice.PartMut.{putMid, post-is}
 use borrow.Author.Tests.{le-leb, lt-leb, leb-true, eqb-true}
 use Rattle.layout.specs.Bytes.{bytesAt, patch, writeAt, allZero}
 use Rattle.layout.proofs.BooleanLaws.{and-left, and-right, and-both, tests-agree}
@@ -222,3 +224,12 @@ module _ (b : List ℕ) (at : ℕ) where
       tests-agree (first && second) (allZero (bytesAt b at (o + n)))
       (λ e. zero-join b at o n ∙ and-both (zero-front o m h (and-left first second e)) (and-right first second e))
       (λ e. and-both (zero-front m (o + n) l e) (and-right (allZero (bytesAt b at o)) second (sym (zero-join b at o n) ∙ e)))
+
+-- ---- the rest of a list from a place on, as it is lent, and put back
+
+pub length-rest : (b : List ℕ) (at : ℕ) → length (take (length b - at) (drop at b)) ≡ length b - at
+length-rest b at = rw part-to-end (length-drop at b)
+
+pub put-rest : (b : List ℕ) (at : ℕ) (x : List ℕ) → at ≤ length b → putMid at (length b - at) b x ≡ take at b ++ x
+put-rest b at x h =
+    ap (λ (l : List ℕ). take at b ++ (x ++ l)) (post-is at (length b) b h ∙ drop-length b) ∙ ap (λ (l : List ℕ). take at b ++ l) (append-nil x)

@@ -3,6 +3,7 @@
 --     frames-none, frames-more  a journal's frames, one step at a time
 --     frames-unread, unread-no-frame   the frames and the rest behind them are the journal, and no frame begins that rest
 --     all-frames                each of the frames is one whole frame
+--     frames-size               frames have four bytes each at least
 --     frames-before             the bytes of the first k frames have just these frames
 --     frames-behind, unread-behind     from behind its first k frames on, a journal has the remaining frames and the same unread rest
 --     frames-in-front, frames-flatten  frames one behind the other, with bytes behind them that begin none or without, are the frames found
@@ -20,7 +21,7 @@ use borrow.Author.Tests.{eqb-true, eqb-false, eq-eqb, ne-eqb}
 use borrow.Table.Steps.{cases}
 use Rattle.layout.proofs.BooleanLaws.{and-left, and-right, and-both}
 use Rattle.layout.proofs.ConcatenationLaws.{flatten-append}
-use Rattle.reader.specs.Frames.{frameLength, isFrame}
+use Rattle.reader.specs.Frames.{frameLengthUpTo, frameLength, isFrame}
 use Rattle.reader.proofs.FrameLaws.{frame-least, frame-inside, first-is-frame, frame-whole, frame-there, frame-in-front}
 use Rattle.model.specs.Lists.{forAll}
 use Rattle.model.specs.Step.{Response}
@@ -110,8 +111,20 @@ frames-in-front (m ∷ ms) r f z =
     ∙ frames-in-front ms r (and-right (isFrame m) (forAll isFrame ms) f) z)
 
 pub frames-flatten : (ms : List (List ℕ)) → forAll isFrame ms ≡ true → framesOf (flatten ms) ≡ ms
-unfolding frameLength
+unfolding frameLengthUpTo
 frames-flatten ms e = ap framesOf (sym (append-nil (flatten ms))) ∙ frames-in-front ms [] e refl
+
+-- frames have four bytes each at least
+pub frames-size : (ms : List (List ℕ)) → forAll isFrame ms ≡ true → 4 * length ms ≤ length (flatten ms)
+unfolding forAll flatten
+frames-size [] e = omega arith
+frames-size (m ∷ ms) e =
+    let is-frame = and-left (isFrame m) (forAll isFrame ms) e in
+    let least = frame-least m (frame-there m is-frame) in
+    let whole = frame-whole m is-frame in
+    let later = frames-size ms (and-right (isFrame m) (forAll isFrame ms) e) in
+    let l = length-append m (flatten ms) in
+    omega arith
 
 -- ---- what is left behind the frames
 
@@ -143,6 +156,9 @@ frames-unread =
     ∙ append-assoc (take (frameLength j) j) (flatten (framesOf (afterFirst j))) (unread (afterFirst j))
     ∙ ap (λ (rest : List ℕ). take (frameLength j) j ++ rest) f
     ∙ take-append-drop (frameLength j) j)
+
+pub length-frames : (j : List ℕ) → length (flatten (framesOf j)) + length (unread j) ≡ length j
+length-frames j = sym (length-append (flatten (framesOf j)) (unread j)) ∙ ap length (frames-unread j)
 
 pub unread-no-frame : (j : List ℕ) → frameLength (unread j) ≡ 0
 unread-no-frame =

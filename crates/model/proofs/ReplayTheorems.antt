@@ -10,7 +10,7 @@
 --     messages-counted   the message count is the number of frames passed
 -- On any board, sound or not:
 --     unsound-replay     a board that is not sound: 1, and nothing is changed
---     replay-repeatable, more-room       what is observation of it does not depend on the bytes in the buffer, nor on room beyond what it needs
+--     replay-repeatable, more-room       what can be observed of it does not depend on the bytes in the buffer, nor on room beyond what it needs
 use Prim.Native.Nat.{ℕ, zero, suc, _+_, _*_, _-_, _≤_, _<_}
 use native.Mathlib.Omega.{arith}
 use mathlib.Core.Path.{_≡_, refl, sym, ap, ap₂, _∙_, subst}

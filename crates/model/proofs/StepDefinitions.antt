@@ -5,7 +5,7 @@ use Rattle.layout.specs.Bytes.{bytesAt}
 use Rattle.layout.specs.Numbers.{toLeBytes, fromLeBytes}
 use Rattle.layout.specs.StringFields.{isString, stringBytes}
 use Rattle.layout.specs.Bits.{bitAt, hasBit, setBit, clearBit, setPlaces}
-use Rattle.reader.specs.Frames.{lengthField, frameLength, isFrame, kindOf, bodyOf, frameBytes}
+use Rattle.reader.specs.Frames.{lengthField, frameLengthUpTo, isFrame, kindOf, bodyOf, frameBytes}
 use Rattle.reader.specs.Fields.{fieldFits, fieldEnd, fieldValue, fieldsFit, fieldValues, valueNumber, valueString}
 use Rattle.reader.specs.Kinds.{kinds, fieldsIn, kindFields}
 use Rattle.reader.specs.Messages.{bodyContent, messageContent}
@@ -20,5 +20,5 @@ use Rattle.model.specs.Step.{respond, stepAction, stepState}
 use Rattle.model.specs.Replay.{framesIn, framesOf, runFrames, runOf}
 
 unfoldable pub stepDefinitions : Unit {0}
-unfolding flatten indexOf bytesAt toLeBytes fromLeBytes isString stringBytes bitAt hasBit setBit clearBit setPlaces lengthField frameLength isFrame kindOf bodyOf frameBytes fieldFits fieldEnd fieldValue fieldsFit fieldValues kinds fieldsIn kindFields bodyContent messageContent contains removeAt emptyState userNumbers postNumbers pendingNumbers userAt postAt pendingAt notesTo noteAt isAdmin valueNumber valueString actionNamed actionFrom actionOf isRegistered isPost isPending userSlot postPlace pendingPlace userNumbered postNumbered areFriends hasRequested noteOfRequest ownerOf isOwner mayRead causeNumber rightOf lacksRight afterLogin postRows userRows pendingRows changeRefusals queryRefusals firstCause addUser updateUser updatePost setNote addRequest removeRequest addFriends removeFriends acceptRequest applyChange countedList staffList postEntry usersIn answerBody respond stepAction stepState framesIn framesOf runFrames runOf
+unfolding flatten indexOf bytesAt toLeBytes fromLeBytes isString stringBytes bitAt hasBit setBit clearBit setPlaces lengthField frameLengthUpTo isFrame kindOf bodyOf frameBytes fieldFits fieldEnd fieldValue fieldsFit fieldValues kinds fieldsIn kindFields bodyContent messageContent contains removeAt emptyState userNumbers postNumbers pendingNumbers userAt postAt pendingAt notesTo noteAt isAdmin valueNumber valueString actionNamed actionFrom actionOf isRegistered isPost isPending userSlot postPlace pendingPlace userNumbered postNumbered areFriends hasRequested noteOfRequest ownerOf isOwner mayRead causeNumber rightOf lacksRight afterLogin postRows userRows pendingRows changeRefusals queryRefusals firstCause addUser updateUser updatePost setNote addRequest removeRequest addFriends removeFriends acceptRequest applyChange countedList staffList postEntry usersIn answerBody respond stepAction stepState framesIn framesOf runFrames runOf
 stepDefinitions = tt

@@ -2,6 +2,7 @@
 --     step-valid-board     on the encoding of a valid state it is the step on that state, with board and buffer around it
 --     unsound-refused, short-refused   1 and 2 write nothing and change nothing
 --     refused-board        a refusal leaves the board as it was
+--     refused-written      from 3 on it writes the head of a frame
 --     step-sound           a step on a sound board leaves a sound board
 --     step-lengths         what it writes, and that board and buffer keep their lengths
 --     step-decides         a frame on a sound board, with room for the answer, gets none of 1, 2 and 3
@@ -20,6 +21,7 @@ use Rattle.layout.specs.Bytes.{patch}
 use Rattle.layout.proofs.ByteLaws.{length-patch}
 use Rattle.layout.proofs.BooleanLaws.{cond-same}
 use Rattle.reader.specs.Frames.{isFrame}
+use Rattle.reader.proofs.FrameLaws.{length-frame}
 use Rattle.model.specs.State.{State}
 use Rattle.model.specs.Board.{encode, decode}
 use Rattle.model.specs.Soundness.{isSound}
@@ -90,9 +92,28 @@ refused-board msg b o = by-cause (firstCause (argumentRefusals b o))
     by-cause none h = unfold stepWith writeAnswer in rw (ne-eqb (stepState msg (decode b) .number) 0 h) refl
     by-cause (some cause) h = unfold stepWith in refl
 
+-- ---- a refusal from 3 on writes four bytes
+
+respond-written : (c : Option Cause) (s next : State) (body : List ℕ) → (respond c s next body .number ≡ 0 → ⊥) → length (respond c s next body .answer) ≡ 4
+unfolding respond
+respond-written none s next body h = absurd (h refl)
+respond-written (some cause) s next body h = length-frame (causeNumber cause) []
+
+action-written : (s : State) (a : Action) → (stepAction s a .number ≡ 0 → ⊥) → length (stepAction s a .answer) ≡ 4
+unfolding stepAction
+action-written s (change c) h = respond-written (firstCause (changeRefusals s c)) s (applyChange s c) [] h
+action-written s (query q) h = respond-written (firstCause (queryRefusals s q)) s s (answerBody s q) h
+action-written s (refused refusal) h = respond-written (some (malformed refusal)) s s [] h
+
+pub refused-written : (msg b o : List ℕ) → isSound b ≡ true → answerLimit ≤ length o → (stepOf msg b o .number ≡ 0 → ⊥) → stepOf msg b o .written ≡ 4
+unfolding writeAnswer stepState
+refused-written msg b o e h n =
+    let r = arguments-accepted msg b o e h in
+    ap (λ (x : StepResult). x .written) r ∙ action-written (decode b) (actionOf msg) (λ z. n (ap (λ (x : StepResult). x .number) r ∙ z))
+
 -- ---- the step on the board of a valid state
 
--- a response around which the board is encodedResult and the answer written into a buffer
+-- a response as a result: the state encoded, and the answer written into a buffer
 abbrev pub encodedResult : Response State → List ℕ → StepResult
 encodedResult r o = record { number = r .number; written = length (r .answer); board = encode (r .state); buffer = patch o 0 (r .answer) }
 

@@ -1,4 +1,4 @@
--- Wrong replays of "The promises and the table", which get past demand 3. Whatever else such a replay does, it differs from `replayOf`; the
+-- The wrong replays of "The promises and the table". Whatever else such a replay does, it differs from `replayOf`; the
 -- first and the last do at the input named here, on the empty board with room for three answers.
 --     skipping-differs      "a replay that applies the first message and merely skips the rest"
 --     miscounting-differs   "one whose message count is not the number of frames passed"

@@ -8,7 +8,7 @@ use lib.Dec.{eqb}
 use Rattle.layout.specs.Bytes.{bytesAt}
 use Rattle.layout.specs.Numbers.{toLeBytes, fromLeBytes}
 use Rattle.layout.specs.StringFields.{isString}
-use Rattle.reader.specs.Frames.{frameBytes, lengthField, frameLength, isFrame, kindOf, bodyOf}
+use Rattle.reader.specs.Frames.{frameBytes, lengthField, frameLengthUpTo, isFrame, kindOf, bodyOf}
 use Rattle.reader.specs.Fields.{numberValue, stringValue, fieldFits, fieldEnd, fieldValue, fieldsFit, fieldValues}
 use Rattle.reader.specs.Kinds.{kinds, fieldsIn, kindFields}
 use Rattle.reader.specs.Messages.{bodyContent, messageContent}
@@ -76,11 +76,11 @@ agrees [] = true
 agrees (e ∷ es) = eqb (messageContent (e .bytes) .code) (e .code) && (eqb (length (messageContent (e .bytes) .values)) (e .count) && agrees es)
 
 examples-agree : agrees examples ≡ true
-unfolding agrees examples messageContent bodyContent isFrame frameLength lengthField kindOf bodyOf kindFields fieldsIn kinds fieldsFit fieldValues fieldFits fieldEnd fieldValue isString bytesAt frameBytes toLeBytes fromLeBytes
+unfolding agrees examples messageContent bodyContent isFrame frameLengthUpTo lengthField kindOf bodyOf kindFields fieldsIn kinds fieldsFit fieldValues fieldFits fieldEnd fieldValue isString bytesAt frameBytes toLeBytes fromLeBytes
 examples-agree = refl
 
 -- the values of the listing's second message: user 7, password 1, post 9, title "Hi" at place 18
 listing-values : messageContent (frameBytes 0x0203 (login ++ (toLeBytes 4 9 ++ (toLeBytes 2 2 ++ (72 ∷ 105 ∷ []))))) .values
     ≡ numberValue 7 ∷ numberValue 1 ∷ numberValue 9 ∷ stringValue 18 (72 ∷ 105 ∷ []) ∷ []
-unfolding messageContent bodyContent isFrame frameLength lengthField kindOf bodyOf kindFields fieldsIn kinds fieldsFit fieldValues fieldFits fieldEnd fieldValue isString bytesAt frameBytes toLeBytes fromLeBytes
+unfolding messageContent bodyContent isFrame frameLengthUpTo lengthField kindOf bodyOf kindFields fieldsIn kinds fieldsFit fieldValues fieldFits fieldEnd fieldValue isString bytesAt frameBytes toLeBytes fromLeBytes
 listing-values = refl

@@ -7,7 +7,7 @@ use mathlib.Core.Path.{_≡_, refl, sym, ap, ap₂, _∙_}
 use mathlib.Core.List.{List, [], _++_, append-assoc, append-nil}
 use mathlib.Core.Bool.{Bool, true, false, _&&_, not, cond, and-false}
 use lib.ListN.{length, take, drop, length-append, length-drop}
-use lib.Seq.{length-take-le, take-at, take-append-le, drop-at, drop-drop}
+use lib.Seq.{length-take-le, take-at, take-append-le, drop-at, drop-drop, drop-append-le}
 use lib.Dec.{eqb, leb, lit≤}
 use lib.Pow.{areBytes}
 use borrow.Table.Steps.{cases}
@@ -17,26 +17,26 @@ use Rattle.layout.specs.Numbers.{toLeBytes, fromLeBytes}
 use Rattle.layout.proofs.BooleanLaws.{and-left, and-right, and-both}
 use Rattle.layout.proofs.ByteLaws.{length-bytesAt, bytesAt-bytesAt, drop-split}
 use Rattle.layout.proofs.NumberLaws.{length-to, from-to, to-from, bytes-bytesAt}
-use Rattle.reader.specs.Frames.{lengthField, frameLength, isFrame, kindOf, bodyOf, frameBytes}
+use Rattle.reader.specs.Frames.{lengthField, frameLengthUpTo, frameLength, isFrame, kindOf, bodyOf, frameBytes}
 
 -- ---- the four conditions of a frame's length, read one by one
 
-module _ (s : List ℕ) where
-  pub frame-length : 4 ≤ length s → 2 ≤ lengthField s → lengthField s ≤ 276 → lengthField s + 2 ≤ length s → frameLength s ≡ lengthField s + 2
-  unfolding frameLength
-  frame-length h l g w =
-      simp (le-leb 4 (length s) h, le-leb 2 (lengthField s) l, le-leb (lengthField s) 276 g, le-leb (lengthField s + 2) (length s) w)
+pub frame-length : {most : ℕ} (s : List ℕ) → 4 ≤ length s → 2 ≤ lengthField s → lengthField s ≤ most → lengthField s + 2 ≤ length s
+    → frameLengthUpTo most s ≡ lengthField s + 2
+unfolding frameLengthUpTo
+frame-length {most} s h l g w =
+    simp (le-leb 4 (length s) h, le-leb 2 (lengthField s) l, le-leb (lengthField s) most g, le-leb (lengthField s + 2) (length s) w)
 
 -- what a frame's length says
-pub record FrameAt (s : List ℕ) : Type 0 where
-  pub stated : frameLength s ≡ lengthField s + 2
+pub record FrameAt (most : ℕ) (s : List ℕ) : Type 0 where
+  pub stated : frameLengthUpTo most s ≡ lengthField s + 2
   pub least : 2 ≤ lengthField s
-  pub greatest : lengthField s ≤ 276
+  pub greatest : lengthField s ≤ most
   pub inside : lengthField s + 2 ≤ length s
 
-pub frame-at : (s : List ℕ) → (frameLength s ≡ 0 → ⊥) → FrameAt s
-unfolding frameLength
-frame-at s n = by-test (head && (low && (high && whole))) refl n
+pub frame-at : {most : ℕ} (s : List ℕ) → (frameLengthUpTo most s ≡ 0 → ⊥) → FrameAt most s
+unfolding frameLengthUpTo
+frame-at {most} s n = by-test (head && (low && (high && whole))) refl n
   where
     head : Bool
     head = leb 4 (length s)
@@ -45,12 +45,12 @@ frame-at s n = by-test (head && (low && (high && whole))) refl n
     low = leb 2 (lengthField s)
 
     high : Bool
-    high = leb (lengthField s) 276
+    high = leb (lengthField s) most
 
     whole : Bool
     whole = leb (lengthField s + 2) (length s)
 
-    by-test : (t : Bool) → (head && (low && (high && whole))) ≡ t → (cond t (lengthField s + 2) 0 ≡ 0 → ⊥) → FrameAt s
+    by-test : (t : Bool) → (head && (low && (high && whole))) ≡ t → (cond t (lengthField s + 2) 0 ≡ 0 → ⊥) → FrameAt most s
     by-test false e n = absurd (n refl)
     by-test true e n =
         let r₁ = and-right head (low && (high && whole)) e in
@@ -58,11 +58,21 @@ frame-at s n = by-test (head && (low && (high && whole))) refl n
         record {
           stated = ap (λ (t : Bool). cond t (lengthField s + 2) 0) e;
           least = leb-true 2 (lengthField s) (and-left low (high && whole) r₁);
-          greatest = leb-true (lengthField s) 276 (and-left high whole r₂);
+          greatest = leb-true (lengthField s) most (and-left high whole r₂);
           inside = leb-true (lengthField s + 2) (length s) (and-right high whole r₂);
         }
 
--- a frame has 4 to 278 bytes and lies within s
+-- a frame lies within s
+pub inside-up-to : (most : ℕ) (s : List ℕ) → frameLengthUpTo most s ≤ length s
+inside-up-to most s =
+    let n : ℕ = frameLengthUpTo most s in
+    cases (eqb n 0) (λ e. omega (arith, eqb-true n 0 e))
+    (λ e. let f = frame-at s (eqb-false n 0 e) in omega (arith, f .stated, f .inside))
+
+pub frame-inside : (s : List ℕ) → frameLength s ≤ length s
+frame-inside = inside-up-to 276
+
+-- a message has 4 to 278 bytes
 pub frame-least : (s : List ℕ) → (frameLength s ≡ 0 → ⊥) → 4 ≤ frameLength s
 frame-least s n = let f = frame-at s n in omega (arith, f .stated, f .least)
 
@@ -70,11 +80,6 @@ pub frame-greatest : (s : List ℕ) → frameLength s ≤ 278
 frame-greatest s =
     cases (eqb (frameLength s) 0) (λ e. omega (arith, eqb-true (frameLength s) 0 e))
     (λ e. let f = frame-at s (eqb-false (frameLength s) 0 e) in omega (arith, f .stated, f .greatest))
-
-pub frame-inside : (s : List ℕ) → frameLength s ≤ length s
-frame-inside s =
-    cases (eqb (frameLength s) 0) (λ e. omega (arith, eqb-true (frameLength s) 0 e))
-    (λ e. let f = frame-at s (eqb-false (frameLength s) 0 e) in omega (arith, f .stated, f .inside))
 
 -- a message that is a frame
 pub is-frame : (s : List ℕ) → (frameLength s ≡ 0 → ⊥) → frameLength s ≡ length s → isFrame s ≡ true
@@ -90,10 +95,12 @@ unfolding isFrame
 other-length s n = ap (λ (t : Bool). not (eqb (frameLength s) 0) && t) (ne-eqb (frameLength s) (length s) n) ∙ and-false (not (eqb (frameLength s) 0))
 
 -- without one of the conditions there is no frame
-pub frame-none : (s : List ℕ) → (4 ≤ length s → 2 ≤ lengthField s → lengthField s ≤ 276 → lengthField s + 2 ≤ length s → ⊥) → frameLength s ≡ 0
-frame-none s n =
-    cases (eqb (frameLength s) 0) (eqb-true (frameLength s) 0)
-    (λ e. let f = frame-at s (eqb-false (frameLength s) 0 e) in absurd (n (omega (arith, f .least, f .inside)) (f .least) (f .greatest) (f .inside)))
+pub frame-none : {most : ℕ} (s : List ℕ) → (4 ≤ length s → 2 ≤ lengthField s → lengthField s ≤ most → lengthField s + 2 ≤ length s → ⊥)
+    → frameLengthUpTo most s ≡ 0
+frame-none {most} s n =
+    let l : ℕ = frameLengthUpTo most s in
+    cases (eqb l 0) (eqb-true l 0)
+    (λ e. let f = frame-at s (eqb-false l 0 e) in absurd (n (omega (arith, f .least, f .inside)) (f .least) (f .greatest) (f .inside)))
 
 -- ---- the frame that stands first in s is a message
 
@@ -165,7 +172,7 @@ module _ (kind : ℕ) (body : List ℕ) where
   frame-is-frame h =
       let l = length-frame in
       let e = ap lengthField (sym (append-nil (frameBytes kind body))) ∙ frame-stated [] (omega arith) in
-      let f = frame-length (frameBytes kind body) (omega arith) (omega arith) (omega arith) (omega arith) in
+      let f = frame-length {most = 276} (frameBytes kind body) (omega arith) (omega arith) (omega arith) (omega arith) in
       is-frame (frameBytes kind body) (λ z. omega arith) (omega arith)
 
 -- a message that is a frame is that of its kind and body
@@ -209,3 +216,13 @@ module _ (m : List ℕ) (e : isFrame m ≡ true) where
       frame-length (m ++ rest) (omega arith) (omega (arith, field, at .least)) (omega (arith, field, at .greatest))
       (omega (arith, field, at .inside))
       ∙ ap (λ (k : ℕ). k + 2) field ∙ sym (at .stated) ∙ frame-whole
+
+-- bytes behind the head do not change the kind
+pub kind-in-front : (s rest : List ℕ) → 4 ≤ length s → kindOf (s ++ rest) ≡ kindOf s
+unfolding kindOf bytesAt
+kind-in-front s rest h =
+    let l = length-append s rest in
+    let same : take 2 (drop 2 (s ++ rest)) ≡ take 2 (drop 2 s) =
+    ap (take 2) (drop-append-le 2 s rest (omega arith)) ∙ take-append-le 2 (drop 2 s) rest (rw length-drop (omega arith))
+    in
+    simp (le-leb 4 (length (s ++ rest)) (omega arith), le-leb 4 (length s) h) (ap fromLeBytes same)

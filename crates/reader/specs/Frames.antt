@@ -11,13 +11,17 @@ use Rattle.layout.specs.Numbers.{toLeBytes, fromLeBytes}
 unfoldable pub lengthField : List ℕ → ℕ
 lengthField s = fromLeBytes (bytesAt s 0 2)
 
--- the length of the frame that stands first in s; 0 where the head of four bytes is cut, L is outside 2 to 276 or reaches past the end
-unfoldable pub frameLength : List ℕ → ℕ
-frameLength s =
+-- the length of the frame that stands first in s; 0 where the head of four bytes is cut, L is outside 2 to `most` or reaches past the end
+unfoldable pub frameLengthUpTo : ℕ → List ℕ → ℕ
+frameLengthUpTo most s =
     cond
-    (leb 4 (length s) && (leb 2 (lengthField s) && (leb (lengthField s) 276 && leb (lengthField s + 2) (length s))))
+    (leb 4 (length s) && (leb 2 (lengthField s) && (leb (lengthField s) most && leb (lengthField s + 2) (length s))))
     (lengthField s + 2)
     0
+
+-- of a message: "L is 2 to 276"
+abbrev pub frameLength : List ℕ → ℕ
+frameLength = frameLengthUpTo 276
 
 -- a message is one whole frame; else its refusal is 3
 unfoldable pub isFrame : List ℕ → Bool

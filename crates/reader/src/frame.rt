@@ -1,11 +1,11 @@
 // The frame of a message: its length, its kind and its body.
 ghost use mathlib.Core.Path.{_≡_};
-ghost use Rattle.reader.specs.Frames.{frameLength, kindOf, bodyOf};
+ghost use Rattle.reader.specs.Frames.{frameLengthUpTo, frameLength, kindOf, bodyOf};
 use layout::number::read_u16;
 
-// The length of the frame that stands first, or 0 where there is none: the head is cut, or L is outside 2 to 276 or reaches past the end.
-pub fn frame_length(bytes: &[u8]) -> usize
-    ensures { λ r. ⌜ r ≡ frameLength (now (bytes .entry)) ⌝ }
+// The length of the frame that stands first, or 0 where there is none: the head is cut, or L is outside 2 to `most` or reaches past the end.
+pub fn frame_length_up_to(bytes: &[u8], most: usize) -> usize
+    ensures { λ r. ⌜ r ≡ frameLengthUpTo most (now (bytes .entry)) ⌝ }
 {
     if bytes.len() < 4 {
         return 0;
@@ -14,13 +14,20 @@ pub fn frame_length(bytes: &[u8]) -> usize
     if l < 2 {
         return 0;
     }
-    if 276 < l {
+    if most < l {
         return 0;
     }
     if bytes.len() < l + 2 {
         return 0;
     }
     l + 2
+}
+
+// Of a message: "L is 2 to 276".
+pub fn frame_length(bytes: &[u8]) -> usize
+    ensures { λ r. ⌜ r ≡ frameLength (now (bytes .entry)) ⌝ }
+{
+    frame_length_up_to(bytes, 276)
 }
 
 // The two-byte kind, or 0 where the head is cut.

@@ -1,16 +1,16 @@
--- What `replay_rest` shows at each of its returns, of plain lists.
+-- What `replay_rest` and `replay` show at each of their returns, of plain lists.
 use Prim.Native.Nat.{ℕ, zero, suc, _+_, _-_, _≤_, _<_}
 use native.Mathlib.Nat.{le-refl}
 use native.Mathlib.Omega.{arith}
 use mathlib.Core.Path.{_≡_, refl, sym, ap, _∙_, subst}
-use mathlib.Core.List.{List, _++_, append-nil}
+use mathlib.Core.List.{List}
 use mathlib.Core.Bool.{Bool, true, false, cond}
 use lib.ListN.{length, take, drop, length-drop}
-use lib.Seq.{drop-length}
 use lib.Pow.{areBytes}
 use borrow.Author.Tests.{eq-eqb, ne-eqb, lt-ltb, le-ltb}
 use borrow.Rule.Slice.PartAt.{part-to-end}
-use borrow.Rule.Slice.PartMut.{putMid, post-is}
+use borrow.Rule.Slice.PartMut.{putMid}
+use Rattle.layout.proofs.ByteLaws.{put-rest}
 use Rattle.reader.specs.Frames.{frameLength}
 use Rattle.reader.proofs.FrameLaws.{frame-inside}
 use Rattle.model.specs.Soundness.{isSound}
@@ -21,19 +21,10 @@ use Rattle.model.proofs.ReplayTheorems.{unsound-replay}
 use Rattle.step.specs.Results.{stepped}
 use Rattle.step.specs.declared.Answer.{Answer}
 use Rattle.replay.specs.Results.{stopNumber, replayed}
-use Rattle.replay.specs.RestResults.{halted, Replays}
+use Rattle.replay.specs.RestResults.{noneDone, Replays}
 use Rattle.replay.specs.declared.Replayed.{Replayed}
 use Rattle.replay.specs.declared.Stop.{Stop}
 use Rattle.replay.specs.declared.Stop.the-variants.{JournalUsed, BoardUnsound, BufferShort, FrameCut}
-
--- the rest of a journal behind a frame is shorter
-pub rest-shorter : (j : List ℕ) (n : ℕ) → n ≤ length j → (n ≡ 0 → ⊥) → length (take (length j - n) (drop n j)) < length j
-rest-shorter j n h ne = rw part-to-end (rw length-drop (omega arith))
-
--- the part of a buffer from w on, put back
-put-end : (w : ℕ) (o x : List ℕ) → w ≤ length o → putMid w (length o - w) o x ≡ take w o ++ x
-put-end w o x h =
-    ap (λ (l : List ℕ). take w o ++ (x ++ l)) (post-is w (length o) o h ∙ drop-length o) ∙ ap (λ (l : List ℕ). take w o ++ l) (append-nil x)
 
 -- what a step has written lies within the buffer that it left
 pub answer-inside : (m b o : List ℕ) → areBytes b ≡ true → (a : Answer) (b₁ o₁ : List ℕ) → stepped a b₁ o₁ ≡ stepOf m b o → a .written ≤ length o₁
@@ -43,14 +34,14 @@ answer-inside m b o y a b₁ o₁ e =
 
 module _ (j b o : List ℕ) where
   -- stopped at once
-  at-once : (why : Stop) → {r : Replayed} → r ≡ halted why
+  at-once : (why : Stop) → {r : Replayed} → r ≡ noneDone why
       → ((count : ℕ) → length j ≤ count → stopped (stopNumber why) b o ≡ replayIn count j b o) → Replays j b o r b o
   unfolding stopped
   at-once why e f =
       subst (λ (r : Replayed). Replays j b o r b o) (sym e)
       (record { same = f; messages = omega arith; passed = omega arith; written = omega arith })
 
-  pub journal-used : {r : Replayed} → r ≡ halted JournalUsed → length j ≡ 0 → Replays j b o r b o
+  pub journal-used : {r : Replayed} → r ≡ noneDone JournalUsed → length j ≡ 0 → Replays j b o r b o
   unfolding replayIn
   journal-used e z = at-once JournalUsed e by-count
     where
@@ -58,7 +49,7 @@ module _ (j b o : List ℕ) where
       by-count zero h = refl
       by-count (suc count) h = rw (eq-eqb (length j) 0 z) refl
 
-  pub buffer-short : {r : Replayed} → r ≡ halted BufferShort → (length j ≡ 0 → ⊥) → length o < answerLimit → Replays j b o r b o
+  pub buffer-short : {r : Replayed} → r ≡ noneDone BufferShort → (length j ≡ 0 → ⊥) → length o < answerLimit → Replays j b o r b o
   unfolding replayIn
   buffer-short e n l = at-once BufferShort e by-count
     where
@@ -66,7 +57,7 @@ module _ (j b o : List ℕ) where
       by-count zero h = absurd (n (omega arith))
       by-count (suc count) h = rw (ne-eqb (length j) 0 n) (rw (lt-ltb (length o) answerLimit l) refl)
 
-  pub frame-cut : {r : Replayed} → r ≡ halted FrameCut → (length j ≡ 0 → ⊥) → answerLimit ≤ length o → frameLength j ≡ 0 → Replays j b o r b o
+  pub frame-cut : {r : Replayed} → r ≡ noneDone FrameCut → (length j ≡ 0 → ⊥) → answerLimit ≤ length o → frameLength j ≡ 0 → Replays j b o r b o
   unfolding replayIn
   frame-cut e n l z = at-once FrameCut e by-count
     where
@@ -98,7 +89,7 @@ module _ (j b o : List ℕ) where
     unfolding replayIn continued
     by-count zero h = absurd (more (omega arith))
     by-count (suc count) h =
-        simp (ne-eqb _ _ more, le-ltb _ _ room, ← is, ne-eqb _ _ whole, ← done, put-end (a .written) o₁ o₂ inside)
+        simp (ne-eqb _ _ more, le-ltb _ _ room, ← is, ne-eqb _ _ whole, ← done, put-rest o₁ (a .written) o₂ inside)
         (ap (continued n (stepped a b₁ o₁)) (behind .same count (omega (arith, length-drop n j))))
 
     pub message-done : Replays j b o joined b₂ (putMid (a .written) (length o₁ - a .written) o₁ o₂)
@@ -114,7 +105,7 @@ module _ (j b o : List ℕ) where
 -- ---- the whole replay
 
 module _ (j b o : List ℕ) {r : Replayed} where
-  pub board-unsound : r ≡ halted BoardUnsound → isSound b ≡ false → replayed r b o ≡ replayOf j b o
+  pub board-unsound : r ≡ noneDone BoardUnsound → isSound b ≡ false → replayed r b o ≡ replayOf j b o
   unfolding stopped
   board-unsound e f = ap (λ (x : Replayed). replayed x b o) e ∙ sym (unsound-replay j b o f)
 

@@ -9,8 +9,8 @@ use Rattle.replay.specs.declared.Replayed.{Replayed}
 use Rattle.replay.specs.declared.Stop.{Stop}
 
 -- stopped with no message done
-abbrev pub halted : Stop → Replayed
-halted why = record { stop = why; messages = 0; passed = 0; written = 0 }
+abbrev pub noneDone : Stop → Replayed
+noneDone why = record { stop = why; messages = 0; passed = 0; written = 0 }
 
 -- the replay of j, for any count that is enough, with counts within what was lent
 pub record Replays (j b o : List ℕ) (r : Replayed) (b′ o′ : List ℕ) : Type 0 where

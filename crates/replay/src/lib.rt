@@ -2,7 +2,7 @@
 ghost use mathlib.Core.Path.{_≡_};
 ghost use Rattle.model.specs.Replay.{replayOf};
 ghost use Rattle.replay.specs.Results.{replayed};
-ghost use Rattle.replay.specs.RestResults.{halted, Replays};
+ghost use Rattle.replay.specs.RestResults.{noneDone, Replays};
 use board::sound;
 use reader::frame::frame_length;
 use step::ANSWER_LIMIT;
@@ -26,7 +26,7 @@ pub struct Replayed {
 
 // Stopped with no message done.
 fn stopped(stop: Stop) -> Replayed
-    ensures { λ r. ⌜ r ≡ halted stop ⌝ }
+    ensures { λ r. ⌜ r ≡ noneDone stop ⌝ }
 {
     Replayed {
         stop,

@@ -1,5 +1,5 @@
 pub mod LineLaws
-pub mod ReplayedLines
+pub mod MessageLineLaws
 pub mod RunLines
 pub mod ReplayText
 pub mod ReportLaws

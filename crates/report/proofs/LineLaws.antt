@@ -26,7 +26,7 @@ pub length-hexadecimal : (n : ℕ) → length (hexadecimal n) ≡ 4
 unfolding hexadecimal
 length-hexadecimal n = refl
 
--- one to five characters
+-- at most five characters
 pub length-decimal : (n : ℕ) → length (decimal n) ≤ 5
 unfolding decimal
 length-decimal n = let l = count-within n in simp length-drop (omega arith)

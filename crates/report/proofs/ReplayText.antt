@@ -11,11 +11,8 @@ use lib.Dec.{eqb}
 use lib.Pow.{areBytes}
 use borrow.Author.Tests.{eqb-true, eqb-false}
 use borrow.Table.Steps.{cases}
-use borrow.Rule.Slice.PartAt.{part-to-end}
-use Rattle.layout.proofs.BooleanLaws.{and-left, and-right}
 use Rattle.layout.proofs.ConcatenationLaws.{flatten-append}
 use Rattle.reader.specs.Frames.{isFrame, kindOf, bodyOf}
-use Rattle.reader.proofs.FrameLaws.{frame-least, frame-there, frame-whole}
 use Rattle.model.specs.Lists.{forAll}
 use Rattle.model.specs.State.{State}
 use Rattle.model.specs.Board.{encode, decode}
@@ -28,25 +25,13 @@ use Rattle.model.proofs.BoardTheorems.{decode-encode}
 use Rattle.model.proofs.SoundnessTheorems.{sound-state}
 use Rattle.model.proofs.StepTheorems.{valid-board}
 use Rattle.model.proofs.BufferLaws.{patch-start}
-use Rattle.model.proofs.JournalLaws.{all-frames, frames-unread, exchangeFrames, exchangeAnswers, lastState, length-run, frames-run, run-take}
+use Rattle.model.proofs.JournalLaws.{all-frames, frames-size, frames-unread, length-frames, exchangeFrames, exchangeAnswers, lastState, length-run, frames-run, run-take}
 use Rattle.model.proofs.ReplayTheorems.{StopReason, noRoom, atEnd, valid-after, replay-prefix, replay-stops, replay-sound, replay-resumed, unread-resumed}
 use Rattle.report.specs.Report.{exchangeLine, cutLine, runText}
-use Rattle.report.specs.ReplayLines.{linesIn}
+use Rattle.report.specs.MessageLines.{linesIn}
 use Rattle.report.proofs.LineLaws.{length-decimal}
-use Rattle.report.proofs.ReplayedLines.{line-short}
+use Rattle.report.proofs.MessageLineLaws.{line-short}
 use Rattle.report.proofs.RunLines.{lines-run}
-
--- frames have four bytes at least
-frames-size : (ms : List (List ℕ)) → forAll isFrame ms ≡ true → 4 * length ms ≤ length (flatten ms)
-unfolding forAll flatten
-frames-size [] e = omega arith
-frames-size (m ∷ ms) e =
-    let is-frame = and-left (isFrame m) (forAll isFrame ms) e in
-    let least = frame-least m (frame-there m is-frame) in
-    let whole = frame-whole m is-frame in
-    let later = frames-size ms (and-right (isFrame m) (forAll isFrame ms) e) in
-    let l = length-append m (flatten ms) in
-    omega arith
 
 -- what r says of the text of the journal j, which begins at a place, from the state s
 pub record TextOf (s : State) (place : ℕ) (j o : List ℕ) (r : ReplayResult) : Type 0 where
@@ -56,7 +41,7 @@ pub record TextOf (s : State) (place : ℕ) (j o : List ℕ) (r : ReplayResult) 
   pub cut : r .stop ≡ 3 → linesIn (r .messages) j (r .buffer) ++ cutLine (place + r .passed) ≡ runText s place j
   pub resumed : linesIn (r .messages) j (r .buffer) ++ runText (decode (r .board)) (place + r .passed) (drop (r .passed) j) ≡ runText s place j
   pub falls : r .stop ≡ 2 → answerLimit ≤ length o → 0 < r .passed
-  pub tested : r .stop ≡ 1 → ⊥
+  pub not-unsound : r .stop ≡ 1 → ⊥
   pub sound : isSound (r .board) ≡ true
 
 module _ (j o : List ℕ) (s : State) (valid : ValidState s) where
@@ -97,6 +82,9 @@ module _ (j o : List ℕ) (s : State) (valid : ValidState s) where
       ∙ ap (λ (x : List ℕ). x ++ unread j) (ap flatten (sym (take-append-drop (r .messages) fs)) ∙ flatten-append ms (drop (r .messages) fs))
       ∙ append-assoc (flatten ms) (flatten (drop (r .messages) fs)) (unread j)
 
+  all-frame : forAll isFrame ms ≡ true
+  all-frame = all-take isFrame (r .messages) (framesOf j) (all-frames j)
+
   lines-done : linesIn (r .messages) j (r .buffer) ≡ flatten (map exchangeLine (take (r .messages) xs))
   lines-done =
       let answers : List ℕ = flatten (exchangeAnswers (runFrames stepState s ms)) in
@@ -107,11 +95,8 @@ module _ (j o : List ℕ) (s : State) (valid : ValidState s) where
       in
       ap₂ (λ (k : ℕ) (a : List ℕ). linesIn k j a) (sym count) buffer
       ∙ ap (λ (x : List ℕ). linesIn (length ms) x (answers ++ drop (length answers) o)) split
-      ∙ lines-run s ms _ _ valid (all-take isFrame (r .messages) (framesOf j) (all-frames j))
+      ∙ lines-run s ms _ _ valid all-frame
       ∙ sym (ap (λ (ys : List (Exchange State)). flatten (map exchangeLine ys)) done)
-
-  all-frame : forAll isFrame ms ≡ true
-  all-frame = all-take isFrame (r .messages) (framesOf j) (all-frames j)
 
   behind-done : length j ≡ r .passed + (length (flatten (drop (r .messages) (framesOf j))) + length (unread j))
   behind-done =
@@ -164,8 +149,7 @@ module _ (j o : List ℕ) (s : State) (valid : ValidState s) where
       let n = length-run stepState s (framesOf j) in
       let whole : ms ≡ framesOf j = take-all (r .messages) (framesOf j) (omega arith) in
       let p = passed ∙ ap (λ (fs : List (List ℕ)). length (flatten fs)) whole in
-      let l : length (flatten (framesOf j)) + length (unread j) ≡ length j = sym (length-append (flatten (framesOf j)) (unread j)) ∙ ap length (frames-unread j) in
-      omega arith
+      omega (arith, length-frames j)
 
   pub text-of : (place : ℕ) → TextOf s place j o r
   unfolding runText exchangeAnswers runFrames flatten
@@ -176,7 +160,7 @@ module _ (j o : List ℕ) (s : State) (valid : ValidState s) where
     cut = λ e. by-cut e (replay-prefix j s o valid .reason);
     resumed = text-resumed place;
     falls = λ e h. by-falls e h (replay-prefix j s o valid .reason);
-    tested = λ e. by-stops e (replay-stops j s o valid);
+    not-unsound = λ e. by-stops e (replay-stops j s o valid);
     sound = replay-sound j s o valid;
   }
     where
@@ -245,7 +229,7 @@ text-short s place j =
     let lines = lines-bound xs in
     let n = length-run stepState s (framesOf j) in
     let few = frames-size (framesOf j) (all-frames j) in
-    let whole : length (flatten (framesOf j)) + length (unread j) ≡ length j = sym (length-append (flatten (framesOf j)) (unread j)) ∙ ap length (frames-unread j) in
+    let whole = length-frames j in
     by-test (eqb (length (unread j)) 0) (flatten (map exchangeLine xs)) (omega arith)
   where
     by-test : (t : Bool) (x : List ℕ) → 2 * length x ≤ 7 * length j
@@ -255,7 +239,3 @@ text-short s place j =
         let c = cut-short (place + (length j - length (unread j))) in
         let l = length-append x (cutLine (place + (length j - length (unread j)))) in
         omega arith
-
--- the length of the rest of a journal
-pub part-length : (j : List ℕ) (n : ℕ) → n ≤ length j → length (take (length j - n) (drop n j)) ≡ length j - n
-part-length j n h = rw part-to-end (length-drop n j)

@@ -18,3 +18,11 @@ listingText =
 pub listing-text : reportOf listing ≡ listingText
 unfolding listing stepDefinitions unread digitCharacter hexadecimal digitCount decimal messageLine exchangeLine cutLine runText reportOf
 listing-text = refl
+
+-- 050a, ffff; 0, 9, 10, 99, 100, 999, 1000, 9999, 10000 and 60000
+pub numbers-text : (hexadecimal 1290 ≡ 48 ∷ 53 ∷ 48 ∷ 97 ∷ []) × (hexadecimal 65535 ≡ 102 ∷ 102 ∷ 102 ∷ 102 ∷ [])
+    × (decimal 0 ≡ 48 ∷ []) × (decimal 9 ≡ 57 ∷ []) × (decimal 10 ≡ 49 ∷ 48 ∷ []) × (decimal 99 ≡ 57 ∷ 57 ∷ [])
+    × (decimal 100 ≡ 49 ∷ 48 ∷ 48 ∷ []) × (decimal 999 ≡ 57 ∷ 57 ∷ 57 ∷ []) × (decimal 1000 ≡ 49 ∷ 48 ∷ 48 ∷ 48 ∷ [])
+    × (decimal 9999 ≡ 57 ∷ 57 ∷ 57 ∷ 57 ∷ []) × (decimal 10000 ≡ 49 ∷ 48 ∷ 48 ∷ 48 ∷ 48 ∷ []) × (decimal 60000 ≡ 54 ∷ 48 ∷ 48 ∷ 48 ∷ 48 ∷ [])
+unfolding digitCharacter hexadecimal digitCount decimal
+numbers-text = (refl, refl, refl, refl, refl, refl, refl, refl, refl, refl, refl, refl)

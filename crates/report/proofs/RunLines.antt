@@ -3,16 +3,13 @@ use Prim.Native.Nat.{ℕ, suc, _+_, _-_, _≤_, _<_}
 use native.Mathlib.Omega.{arith}
 use mathlib.Core.Path.{_≡_, refl, sym, ap, ap₂, _∙_}
 use mathlib.Core.List.{List, [], _∷_, _++_, map, flatten, append-assoc}
-use mathlib.Core.Bool.{Bool, true, _&&_, cond}
-use lib.ListN.{length, take, drop, length-append, length-drop}
-use lib.Seq.{drop-at, take-append-le, drop-append-le}
-use lib.Dec.{leb}
-use borrow.Author.Tests.{ne-eqb, le-leb}
-use Rattle.layout.specs.Bytes.{bytesAt}
-use Rattle.layout.specs.Numbers.{fromLeBytes}
-use Rattle.layout.proofs.BooleanLaws.{and-left, and-right, and-both}
+use mathlib.Core.Bool.{true}
+use lib.ListN.{length, drop, length-append}
+use lib.Seq.{drop-at}
+use borrow.Author.Tests.{ne-eqb}
+use Rattle.layout.proofs.BooleanLaws.{and-left, and-right}
 use Rattle.reader.specs.Frames.{lengthField, frameLength, isFrame, kindOf, bodyOf, frameBytes}
-use Rattle.reader.proofs.FrameLaws.{frame-least, frame-in-front, frame-there, frame-whole, length-frame, frame-body, frame-kind, frame-stated}
+use Rattle.reader.proofs.FrameLaws.{frame-length, frame-least, kind-in-front, frame-in-front, frame-there, frame-whole, length-frame, frame-body, frame-kind, frame-stated}
 use Rattle.model.specs.Lists.{forAll}
 use Rattle.model.specs.State.{State}
 use Rattle.model.specs.Step.{Response, stepState}
@@ -22,43 +19,30 @@ use Rattle.model.proofs.Invariant.{step-valid}
 use Rattle.model.proofs.AnswerLaws.{answer-framed, answer-short}
 use Rattle.model.proofs.JournalLaws.{exchangeAnswers}
 use Rattle.report.specs.Report.{messageLine, exchangeLine}
-use Rattle.report.specs.ReplayLines.{answerLength, linesIn}
-
--- bytes behind the head do not change the kind
-kind-front : (x rest : List ℕ) → 4 ≤ length x → kindOf (x ++ rest) ≡ kindOf x
-unfolding kindOf bytesAt
-kind-front x rest h =
-    let l = length-append x rest in
-    let same : take 2 (drop 2 (x ++ rest)) ≡ take 2 (drop 2 x) = ap (take 2) (drop-append-le 2 x rest (omega arith)) ∙ take-append-le 2 (drop 2 x) rest (simp length-drop (omega arith)) in
-    simp (le-leb 4 (length (x ++ rest)) (omega arith), le-leb 4 (length x) h) (ap fromLeBytes same)
+use Rattle.report.specs.MessageLines.{answerLength, linesIn}
 
 -- an answer, with bytes behind it
-module _ (number : ℕ) (body rest : List ℕ) (n : number < 65536) (l : 2 + length body < 65536) where
+module _ (number : ℕ) (body rest : List ℕ) (n : number < 65536) (l : length body ≤ 514) where
   abbrev behind : List ℕ
   behind = frameBytes number body ++ rest
 
   stated : lengthField behind ≡ 2 + length body
-  stated = frame-stated number body rest l
+  stated = frame-stated number body rest (omega arith)
 
   answer-length : answerLength behind ≡ 4 + length body
-  unfolding answerLength
   answer-length =
       let s = stated in
       let k = length-frame number body in
       let m = length-append (frameBytes number body) rest in
-      let there : (leb 4 (length behind) && (leb 2 (lengthField behind) && leb (lengthField behind + 2) (length behind))) ≡ true =
-      and-both (le-leb 4 (length behind) (omega arith))
-      (and-both (le-leb 2 (lengthField behind) (omega arith)) (le-leb (lengthField behind + 2) (length behind) (omega arith)))
-      in
-      ap (λ (t : Bool). cond t (lengthField behind + 2) 0) there ∙ omega arith
+      frame-length {most = 516} behind (omega arith) (omega arith) (omega arith) (omega arith) ∙ omega arith
 
   answer-number : kindOf behind ≡ number
   answer-number =
       let k = length-frame number body in
-      kind-front (frameBytes number body) rest (omega arith) ∙ frame-kind number body n
+      kind-in-front (frameBytes number body) rest (omega arith) ∙ frame-kind number body n
 
 -- a message and its answer in front of others
-lines-more : (count : ℕ) (m j : List ℕ) (number : ℕ) (body a : List ℕ) → isFrame m ≡ true → number < 65536 → 2 + length body < 65536
+lines-more : (count : ℕ) (m j : List ℕ) (number : ℕ) (body a : List ℕ) → isFrame m ≡ true → number < 65536 → length body ≤ 514
     → linesIn (suc count) (m ++ j) (frameBytes number body ++ a) ≡ messageLine (kindOf m) number (length body) ++ linesIn count j a
 unfolding linesIn
 lines-more count m j number body a e n l =
@@ -71,7 +55,7 @@ lines-more count m j number body a e n l =
     let field = stated number body a n l in
     let line : messageLine (kindOf (m ++ j)) (kindOf (x ++ a)) (lengthField (x ++ a) - 2) ≡ messageLine (kindOf m) number (length body) =
     ap₂ (λ (f : ℕ → List ℕ) (i : ℕ). f i)
-    (ap₂ messageLine (kind-front m j (omega arith)) (answer-number number body a n l)) (omega arith)
+    (ap₂ messageLine (kind-in-front m j (omega arith)) (answer-number number body a n l)) (omega arith)
     in
     let later : linesIn count (drop (frameLength (m ++ j)) (m ++ j)) (drop (answerLength (x ++ a)) (x ++ a)) ≡ linesIn count j a =
     ap₂ (linesIn count) (drop-at m j (frameLength (m ++ j)) (sym size)) (drop-at x a (answerLength (x ++ a)) (k ∙ sym reply))

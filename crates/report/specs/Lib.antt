@@ -1,3 +1,3 @@
 pub mod Report
-pub mod ReplayLines
+pub mod MessageLines
 pub mod Results

@@ -1,18 +1,18 @@
 -- What `lines` has returned, and left in the text buffer.
-use Prim.Native.Nat.{ℕ}
+use Prim.Native.Nat.{ℕ, _+_, _*_, _/_}
 use mathlib.Core.List.{List}
 use mathlib.Core.Bool.{cond}
 use mathlib.Core.Option.{Option, some, none}
 use lib.ListN.{length}
 use lib.Dec.{ltb}
 use Rattle.layout.specs.Bytes.{patch}
-use Rattle.report.specs.Report.{reportOf}
+use Rattle.report.specs.Report.{journalLimit, reportOf}
 use Rattle.report.specs.declared.Report.{Report}
 use Rattle.report.specs.declared.Report.the-variants.{Written, TooShort}
 
 -- no text is longer (`report-short` of ReportLaws): 15,000 lines of at most fourteen bytes, and one of ten
 abbrev pub textLimit : ℕ
-textLimit = 210010
+textLimit = 14 * (journalLimit / 4) + 10
 
 pub record ReportResult : Type 0 where
   pub size : Option ℕ

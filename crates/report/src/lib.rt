@@ -1,6 +1,6 @@
 // The text that the program prints for a journal.
 mod line;
-mod replayed;
+mod message_lines;
 
 ghost use mathlib.Core.Path.{_≡_};
 ghost use mathlib.Core.Bool.{true};
@@ -13,7 +13,7 @@ ghost use Rattle.model.specs.Step.{answerLimit};
 ghost use Rattle.report.specs.Report.{journalLimit, runText};
 ghost use Rattle.report.specs.Results.{reported, reportResult};
 use crate::line::write_cut;
-use crate::replayed::write_lines;
+use crate::message_lines::write_lines;
 use board::BOARD_SIZE;
 use layout::run::write_bytes;
 use replay::Stop;
@@ -23,7 +23,7 @@ use replay::replay;
 pub const JOURNAL_LIMIT: usize = 60000;
 
 // No text is longer: 15,000 lines of at most fourteen bytes, and one of ten.
-pub const TEXT_LIMIT: usize = 210010;
+pub const TEXT_LIMIT: usize = 14 * (JOURNAL_LIMIT / 4) + 10;
 
 // The answer buffer of the replays.
 const ANSWERS_SIZE: usize = 4096;
@@ -34,8 +34,8 @@ pub enum Report {
     TooShort,
 }
 
-// The text of the rest of a journal, which begins at a place of the whole one, written to a place of the text. After a stop for want of room the
-// answer buffer is used anew.
+// Writes, from `at` on, the text of the rest of a journal that begins at `place` of the whole one. After a stop for want of room the answer buffer
+// is used anew.
 fn write_rest(
     journal: &[u8],
     place: usize,

@@ -12,10 +12,11 @@ use borrow.Author.Needs.{needs}
 use borrow.Fn.Kinds.{In}
 use borrow.Fn.PlainCycle.{Measures, is, falls, and}
 use borrow.Rule.Slice.PartMut.{putMid, same-len-mid}
+use Rattle.layout.proofs.ByteLaws.{length-rest}
 use Rattle.layout.proofs.NumberLaws.{bytes-of}
 use Rattle.reader.proofs.FrameLaws.{frame-inside}
 use Rattle.replay.specs.RestResults.{Replays}
-use Rattle.replay.proofs.ReplayLaws.{rest-shorter, answer-inside, journal-used, buffer-short, frame-cut, message-done}
+use Rattle.replay.proofs.ReplayLaws.{answer-inside, journal-used, buffer-short, frame-cut, message-done}
 use Rattle.replay.proofs.replay_rest.Reads as rest
 use Rattle.replay.proofs.replay_rest.Kinds as kinds
 use Rattle.replay.proofs.+replay_rest.Lts-replay_rest as lts
@@ -134,7 +135,11 @@ part-replay-rest-start-2 t c = written-in (c .before .before .before .before .be
 replay-rest-requires : (t : ℕ) → lts.Need-replay-rest-requires (claims t) (at-measure t) rest.Post
 replay-rest-requires t c κs =
     let f = found (c .before .before .before .before .before .before .before) in
-    (omega (arith, rest-shorter (entry f .args .journal .now) (f .before .frame-length .result) (frame-in f) (f .if3 .left), entry f .pre .0), tt)
+    (omega (arith, length-rest (entry f .args .journal .now) (f .before .frame-length .result), frame-in f, f .if3 .left, entry f .pre .0), tt)
+
+-- where the counts have been added up
+abbrev rest-done : {t : ℕ} → lts.After-struct-known3 (claims t) (at-measure t) rest.Post → Replayed-rest t
+rest-done c = c .before .before .before .before .before .before .before
 
 -- the counts: no more messages and bytes than the journal has, no more answers than the buffer
 add-messages : (t : ℕ) → lts.Need-add-messages (claims t) (at-measure t) rest.Post
@@ -149,23 +154,23 @@ add-passed t c =
 
 add-all-written : (t : ℕ) → lts.Need-add-all-written (claims t) (at-measure t) rest.Post
 add-all-written t c =
-    let r = c .before .before .before .before .before .before .before in
+    let r = rest-done c in
     omega (arith, whole r .written, entry (found (step-done r)) .good .1 .1 .0 .0)
 
 same-length : (t : ℕ) → lts.Need-same-length (claims t) (at-measure t) rest.Post
 same-length t c =
-    let r = c .before .before .before .before .before .before .before in
+    let r = rest-done c in
     r .replay-rest .kept .1 .0 ∙ step-done r .step .kept .1 .0
 
 same-length-2 : (t : ℕ) → lts.Need-same-length-2 (claims t) (at-measure t) rest.Post
 same-length-2 t c =
-    let r = c .before .before .before .before .before .before .before in
+    let r = rest-done c in
     let d = step-done r .step in
     same-len-mid (d .result .written) (length (d .last .1 .1 .0) - d .result .written) (d .last .1 .1 .0) (r .replay-rest .last .1 .1 .0)
     (r .replay-rest .kept .1 .1 .0) ∙ d .kept .1 .1 .0
 
 returns-4 : (t : ℕ) → lts.Need-returns-4 (claims t) (at-measure t) rest.Post
-returns-4 t c = whole (c .before .before .before .before .before .before .before)
+returns-4 t c = whole (rest-done c)
 
 pub +replay-rest-spec : {M : Type 1} → statement M
 +replay-rest-spec =

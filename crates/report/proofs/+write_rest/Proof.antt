@@ -13,19 +13,20 @@ use borrow.Rule.Slice.PartAt.{part-to-end}
 use borrow.Fn.PlainCycle.{Measures, is, falls, and}
 use Rattle.layout.specs.Bytes.{bytesWritten, putBytes}
 use Rattle.layout.proofs.NumberLaws.{bytes-of}
+use Rattle.layout.proofs.ByteLaws.{length-rest}
 use Rattle.layout.proofs.WrittenLaws.{put-count, put-behind}
 use Rattle.model.specs.Board.{decode}
 use Rattle.replay.specs.Results.{stopNumber, replayed}
 use Rattle.report.specs.Report.{cutLine, runText}
-use Rattle.report.specs.ReplayLines.{linesIn}
-use Rattle.report.proofs.ReplayedLines.{lines-short}
-use Rattle.report.proofs.ReplayText.{TextOf, sound-text, text-short, cut-short, part-length}
+use Rattle.report.specs.MessageLines.{linesIn}
+use Rattle.report.proofs.MessageLineLaws.{lines-short}
+use Rattle.report.proofs.ReplayText.{TextOf, sound-text, text-short, cut-short}
 use Rattle.report.proofs.write_rest.Reads as rest
 use Rattle.report.proofs.write_rest.Kinds as kinds
 use Rattle.report.proofs.+write_rest.Lts-write_rest as lts
 use Rattle.replay.proofs.replay.Reads as replay-reads
 use Rattle.report.proofs.line.write_cut.Reads as write-cut-reads
-use Rattle.report.proofs.replayed.write_lines.Reads as write-lines-reads
+use Rattle.report.proofs.message_lines.write_lines.Reads as write-lines-reads
 use Rattle.report.proofs.+write_rest.{statement}
 use Rattle.report.proofs.+write_rest.Tie.{close}
 
@@ -102,7 +103,7 @@ returns t c =
 returns-2 : (t : ℕ) → lts.Need-returns-2 (claims t) (at-measure t) rest.Post
 returns-2 t c =
     let w = c .before .before .before .before in
-    absurd (text-of (done w) .tested (ap stopNumber (c .enum-told2 .given .1)))
+    absurd (text-of (done w) .not-unsound (ap stopNumber (c .enum-told2 .given .1)))
 
 -- ---- the rest of the journal
 
@@ -138,7 +139,7 @@ write-rest-requires t c κs =
     let j = entry d .args .journal .now in
     let p = d .replay .result .passed in
     let x = text-of d in
-    let l = part-length j p (x .inside) in
+    let l = length-rest j p in
     let kept = w .write-lines .kept in
     let same = d .replay .kept in
     let fall = x .falls (ap stopNumber (e .enum-told3 .given .1)) (entry d .pre .1 .1) in (

@@ -1,4 +1,4 @@
--- `frame_length` meets its contract: a test that stops leaves one of the four conditions unmet (`frame-none`), and behind them all hold
+-- `frame_length_up_to` meets its contract: a test that stops leaves one of the four conditions unmet (`frame-none`), and behind them all hold
 -- (`frame-length`).
 use Prim.Native.Nat.{ℕ, _+_}
 use native.Mathlib.Omega.{arith}
@@ -6,8 +6,8 @@ use mathlib.Core.Path.{sym, ap, _∙_}
 use borrow.Author.Needs.{needs}
 use Rattle.reader.specs.Frames.{lengthField}
 use Rattle.reader.proofs.FrameLaws.{frame-length, frame-none}
-use Rattle.reader.proofs.frame.frame_length.Statement.{statement}
-use Rattle.reader.proofs.frame.frame_length.Tie as tie
+use Rattle.reader.proofs.frame.frame_length_up_to.Statement.{statement}
+use Rattle.reader.proofs.frame.frame_length_up_to.Tie as tie
 
 returns : tie.Need-returns
 returns c = sym (frame-none _ (λ h l g w. omega arith))
@@ -42,8 +42,8 @@ returns-5 c =
     ap (λ (l : ℕ). l + 2) (c .before .before .before .read-u16 .ensures)
     ∙ sym (frame-length _ (omega arith) (omega arith) (omega arith) (omega arith))
 
-pub frame-length-spec : {M : Type 1} → statement M
-frame-length-spec =
+pub frame-length-up-to-spec : {M : Type 1} → statement M
+frame-length-up-to-spec =
     tie.close
     (tie.spec
     returns

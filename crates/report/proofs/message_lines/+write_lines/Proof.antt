@@ -1,25 +1,27 @@
 -- `write_lines` meets its contract: where messages, frame and answer are there, their line comes before the lines of the rest. The number of
 -- messages falls.
-use Prim.Native.Nat.{ℕ, _≤_, _<_}
+use Prim.Native.Nat.{ℕ, _+_, _≤_, _<_}
 use native.Mathlib.Omega.{arith}
 use native.Mathlib.Nat.{le-refl}
-use mathlib.Core.Path.{sym, _∙_}
+use mathlib.Core.Path.{_≡_, sym, _∙_}
 use lib.ListN.{length}
 use borrow.Author.Needs.{needs}
 use borrow.Fn.Kinds.{In}
 use borrow.Fn.PlainCycle.{Measures, is, falls, and}
+use Rattle.layout.specs.Bytes.{bytesWritten, putBytes}
 use Rattle.layout.proofs.WrittenLaws.{put-count}
-use Rattle.reader.proofs.FrameLaws.{frame-inside}
-use Rattle.report.proofs.ReplayedLines.{answer-at, line-size, lines-short, none-left, no-frame, no-answer, line-in-front}
-use Rattle.report.proofs.replayed.write_lines.Reads as lines
-use Rattle.report.proofs.replayed.write_lines.Kinds as kinds
-use Rattle.report.proofs.replayed.+write_lines.Lts-write_lines as lts
+use Rattle.reader.proofs.FrameLaws.{frame-at, frame-inside}
+use Rattle.report.specs.MessageLines.{linesIn}
+use Rattle.report.proofs.MessageLineLaws.{line-size, lines-short, none-left, no-frame, no-answer, line-in-front}
+use Rattle.report.proofs.message_lines.write_lines.Reads as lines
+use Rattle.report.proofs.message_lines.write_lines.Kinds as kinds
+use Rattle.report.proofs.message_lines.+write_lines.Lts-write_lines as lts
 use Rattle.reader.proofs.frame.frame_length.Reads as frame-length-reads
 use Rattle.reader.proofs.frame.kind.Reads as kind-reads
 use Rattle.report.proofs.line.write_message.Reads as write-message-reads
-use Rattle.report.proofs.replayed.answer_length.Reads as answer-length-reads
-use Rattle.report.proofs.replayed.+write_lines.{statement}
-use Rattle.report.proofs.replayed.+write_lines.Tie.{close}
+use Rattle.reader.proofs.frame.frame_length_up_to.Reads as answer-length-reads
+use Rattle.report.proofs.message_lines.+write_lines.{statement}
+use Rattle.report.proofs.message_lines.+write_lines.Tie.{close}
 
 abbrev measure : Measures 3 kinds.ps ℕ
 measure κs a = a .1 .1 .0
@@ -62,10 +64,10 @@ found c = c .before .before .before .before
 frame-in : {t : ℕ} (c : Found t) → c .before .before .before .frame-length .result ≤ length (entry c .args .journal .now)
 frame-in c = omega (arith, c .before .before .before .frame-length .ensures, frame-inside (entry c .args .journal .now))
 
-answer-in : {t : ℕ} (c : Found t) → (4 ≤ c .before .answer-length .result) × (c .before .answer-length .result ≤ length (entry c .args .answers .now))
+answer-in : {t : ℕ} (c : Found t) → (4 ≤ c .before .frame-length-up-to .result) × (c .before .frame-length-up-to .result ≤ length (entry c .args .answers .now))
 answer-in c =
-    let e = c .before .answer-length .ensures in
-    let w = answer-at (entry c .args .answers .now) (λ z. c .if3 .left (e ∙ z)) in
+    let e = c .before .frame-length-up-to .ensures in
+    let w = frame-at (entry c .args .answers .now) (λ z. c .if3 .left (e ∙ z)) in
     let s = w .stated in
     (omega arith, omega arith)
 
@@ -84,7 +86,7 @@ returns-2 t c = no-frame _ _ _ _ _ (sym (c .before .frame-length .ensures) ∙ c
 returns-3 : (t : ℕ) → lts.Need-returns-3 (claims t) (at-measure t) lines.Post
 returns-3 t c =
     let frame = c .before .before in
-    no-answer _ _ _ _ _ (λ z. frame .if2 .left (frame .before .frame-length .ensures ∙ z)) (sym (c .before .answer-length .ensures) ∙ c .if3 .taken)
+    no-answer _ _ _ _ _ (λ z. frame .if2 .left (frame .before .frame-length .ensures ∙ z)) (sym (c .before .frame-length-up-to .ensures) ∙ c .if3 .taken)
 
 sub-write-message : (t : ℕ) → lts.Need-sub-write-message (claims t) (at-measure t) lines.Post
 sub-write-message t c = let h = answer-in (c .before .before .before) in omega arith
@@ -130,26 +132,28 @@ write-lines-requires t c κs =
 abbrev line-of : {t : ℕ} → lts.After-write-lines (claims t) (at-measure t) lines.Post → LineWritten t
 line-of c = c .before .before .before .before .before .before
 
-returns-4 : (t : ℕ) → lts.Need-returns-4 (claims t) (at-measure t) lines.Post
-returns-4 t c =
-    let r = c .before .before in
-    let w = line-of r in
+all-written : {t : ℕ} (c : lts.After-write-lines (claims t) (at-measure t) lines.Post) →
+    let w = line-of c in
+    let a = entry (found w) .args in
+    bytesWritten (w .write-message .result + c .write-lines .result) (c .write-lines .last .1 .1 .1 .0)
+    ≡ putBytes (a .text .now) (a .at) (linesIn (a .messages) (a .journal .now) (a .answers .now))
+all-written c =
+    let w = line-of c in
     let f = found w in
     let a = entry f .args in
-    line-in-front _ _ _ (a .journal .now) (a .answers .now) (f .before .before .before .frame-length .ensures) (f .before .answer-length .ensures)
+    line-in-front _ _ _ (a .journal .now) (a .answers .now) (f .before .before .before .frame-length .ensures) (f .before .frame-length-up-to .ensures)
     (f .before .before .before .before .if1 .left) (f .before .before .if2 .left) (f .if3 .left) (entry f .pre .1)
-    (w .before .before .kind .ensures) (w .before .kind2 .ensures) (w .write-message .ensures) (r .write-lines .ensures)
+    (w .before .before .kind .ensures) (w .before .kind2 .ensures) (w .write-message .ensures) (c .write-lines .ensures)
+
+returns-4 : (t : ℕ) → lts.Need-returns-4 (claims t) (at-measure t) lines.Post
+returns-4 t c = all-written (c .before .before)
 
 add-result : (t : ℕ) → lts.Need-add-result (claims t) (at-measure t) lines.Post
 add-result t c =
     let r = c .before .before in
-    let w = line-of r in
-    let f = found w in
+    let f = found (line-of r) in
     let a = entry f .args in
-    let all = line-in-front _ _ _ (a .journal .now) (a .answers .now) (f .before .before .before .frame-length .ensures) (f .before .answer-length .ensures)
-    (f .before .before .before .before .if1 .left) (f .before .before .if2 .left) (f .if3 .left) (entry f .pre .1)
-    (w .before .before .kind .ensures) (w .before .kind2 .ensures) (w .write-message .ensures) (r .write-lines .ensures) in
-    let s = put-count _ _ _ all in
+    let s = put-count _ _ _ (all-written r) in
     omega (arith, lines-short (a .messages) (a .journal .now) (a .answers .now), entry f .pre .1, entry f .good .1 .1 .1 .0 .0)
 
 pub +write-lines-spec : {M : Type 1} → statement M

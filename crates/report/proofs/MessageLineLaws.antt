@@ -3,58 +3,19 @@ use Prim.Native.Nat.{ℕ, zero, suc, _+_, _-_, _*_, _≤_}
 use native.Mathlib.Omega.{arith}
 use mathlib.Core.Path.{_≡_, refl, sym, ap, ap₂, _∙_}
 use mathlib.Core.List.{List, [], _++_}
-use mathlib.Core.Bool.{Bool, true, false, _&&_, cond}
+use mathlib.Core.Bool.{Bool, true, false, cond}
 use lib.ListN.{length, take, drop, length-append}
-use lib.Dec.{eqb, leb}
-use borrow.Author.Tests.{eq-eqb, ne-eqb, eqb-true, eqb-false, le-leb, leb-true}
+use lib.Dec.{eqb}
+use borrow.Author.Tests.{eq-eqb, ne-eqb, eqb-true, eqb-false}
 use borrow.Table.Steps.{cases}
 use borrow.Rule.Slice.PartAt.{part-to-end}
 use Rattle.layout.specs.Bytes.{bytesWritten, putBytes}
-use Rattle.layout.proofs.BooleanLaws.{and-left, and-right, and-both}
 use Rattle.layout.proofs.WrittenLaws.{put-count, put-nothing, put-behind}
+use Rattle.reader.proofs.FrameLaws.{frame-at}
 use Rattle.reader.specs.Frames.{lengthField, frameLength, kindOf}
 use Rattle.report.specs.Report.{hexadecimal, decimal, okWord, noWord, space, lineFeed, messageLine}
-use Rattle.report.specs.ReplayLines.{answerLength, linesIn}
+use Rattle.report.specs.MessageLines.{answerLength, linesIn}
 use Rattle.report.proofs.LineLaws.{length-hexadecimal, length-decimal}
-
--- ---- an answer
-
-module _ (a : List ℕ) where
-  abbrev test : Bool
-  test = leb 4 (length a) && (leb 2 (lengthField a) && leb (lengthField a + 2) (length a))
-
-  pub record AnswerAt : Type 0 where
-    pub stated : answerLength a ≡ lengthField a + 2
-    pub least : 2 ≤ lengthField a
-    pub inside : lengthField a + 2 ≤ length a
-
-  answer-by : test ≡ true → AnswerAt
-  unfolding answerLength
-  answer-by e =
-      let p : Bool = leb 4 (length a) in
-      let q : Bool = leb 2 (lengthField a) in
-      let r : Bool = leb (lengthField a + 2) (length a) in
-      let qr = and-right p (q && r) e in
-      record {
-        stated = ap (λ (t : Bool). cond t (lengthField a + 2) 0) e;
-        least = leb-true 2 (lengthField a) (and-left q r qr);
-        inside = leb-true (lengthField a + 2) (length a) (and-right q r qr);
-      }
-
-  answer-no : test ≡ false → answerLength a ≡ 0
-  unfolding answerLength
-  answer-no e = ap (λ (t : Bool). cond t (lengthField a + 2) 0) e
-
-  pub answer-at : (answerLength a ≡ 0 → ⊥) → AnswerAt
-  answer-at n = cases test answer-by (λ e. absurd (n (answer-no e)))
-
-  pub answer-there : 4 ≤ length a → 2 ≤ lengthField a → lengthField a + 2 ≤ length a → answerLength a ≡ lengthField a + 2
-  answer-there p q r =
-      answer-by (and-both (le-leb 4 (length a) p) (and-both (le-leb 2 (lengthField a) q) (le-leb (lengthField a + 2) (length a) r))) .stated
-
-  pub answer-none : (4 ≤ length a → 2 ≤ lengthField a → lengthField a + 2 ≤ length a → ⊥) → answerLength a ≡ 0
-  answer-none n =
-      cases test (λ e. let w = answer-by e in absurd (n (omega (arith, w .least, w .inside)) (w .least) (w .inside))) answer-no
 
 -- ---- lines
 
@@ -95,7 +56,7 @@ lines-next : (count : ℕ) (j a : List ℕ) → (count ≡ 0 → ⊥) → (frame
 unfolding linesIn
 lines-next zero j a c n m = absurd (c refl)
 lines-next (suc count) j a c n m =
-    let w = answer-at a m in
+    let w = frame-at a m in
     let size : lengthField a - 2 ≡ answerLength a - 4 = omega (arith, w .stated, w .least) in
     let one : suc count - 1 ≡ count = omega arith in
     rw (ne-eqb (frameLength j) 0 n) (rw (ne-eqb (answerLength a) 0 m)

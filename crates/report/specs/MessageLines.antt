@@ -1,16 +1,16 @@
 -- The lines of messages that a replay has done, by the bytes of the journal and of the answers. The contracts of private functions use them;
 -- that of `lines` does not.
-use Prim.Native.Nat.{ℕ, zero, suc, _+_, _-_}
+use Prim.Native.Nat.{ℕ, zero, suc, _-_}
 use mathlib.Core.List.{List, [], _++_}
-use mathlib.Core.Bool.{_&&_, cond}
-use lib.ListN.{length, drop}
-use lib.Dec.{eqb, leb}
-use Rattle.reader.specs.Frames.{lengthField, frameLength, kindOf}
+use mathlib.Core.Bool.{cond}
+use lib.ListN.{drop}
+use lib.Dec.{eqb}
+use Rattle.reader.specs.Frames.{lengthField, frameLengthUpTo, frameLength, kindOf}
 use Rattle.report.specs.Report.{messageLine}
 
--- the length of the answer that stands first, 0 where none stands there whole
-unfoldable pub answerLength : List ℕ → ℕ
-answerLength a = cond (leb 4 (length a) && (leb 2 (lengthField a) && leb (lengthField a + 2) (length a))) (lengthField a + 2) 0
+-- the length of the answer that stands first, 0 where none stands there whole: "The largest is 518 bytes."
+abbrev pub answerLength : List ℕ → ℕ
+answerLength = frameLengthUpTo 516
 
 -- the lines of so many messages; none behind bytes that are no frame, or no answer
 unfoldable pub linesIn : ℕ → List ℕ → List ℕ → List ℕ

@@ -3,30 +3,17 @@ ghost use mathlib.Core.Path.{_≡_};
 ghost use Prim.Native.Nat.{_+_, _*_, _≤_};
 ghost use lib.ListN.{length};
 ghost use Rattle.layout.specs.Bytes.{bytesWritten, putBytes};
-ghost use Rattle.report.specs.ReplayLines.{answerLength, linesIn};
+ghost use Rattle.report.specs.MessageLines.{linesIn};
 use crate::line::write_message;
-use layout::number::read_u16;
 use reader::frame::frame_length;
+use reader::frame::frame_length_up_to;
 use reader::frame::kind;
+use step::ANSWER_LIMIT;
 
-// The length of the answer that stands first, or 0 where none stands there whole.
-fn answer_length(answers: &[u8]) -> usize
-    ensures { λ r. ⌜ r ≡ answerLength (now (answers .entry)) ⌝ }
-{
-    if answers.len() < 4 {
-        return 0;
-    }
-    let l = read_u16(answers, 0) as usize;
-    if l < 2 {
-        return 0;
-    }
-    if answers.len() < l + 2 {
-        return 0;
-    }
-    l + 2
-}
+// The greatest L of an answer.
+const ANSWER_MOST: usize = ANSWER_LIMIT - 2;
 
-// A line for each message; none behind bytes that are no frame, or no answer.
+// A line for each message; none behind bytes that are no frame, or no answer, which a replay does not leave. The kind of an answer is its number.
 pub(crate) fn write_lines(
     journal: &[u8],
     answers: &[u8],
@@ -44,7 +31,7 @@ pub(crate) fn write_lines(
     if size == 0 {
         return 0;
     }
-    let answer_size = answer_length(answers);
+    let answer_size = frame_length_up_to(answers, ANSWER_MOST);
     if answer_size == 0 {
         return 0;
     }
