@@ -1,26 +1,47 @@
 -- The three demands, of any result that meets the contract of `step` or of `replay`. Both functions are proved to meet theirs on every input and
--- to return, so these are the demands on the code.
+-- to return, so these are the demands on the code; `step-contract` and `replay-contract` say that the hypotheses here are those contracts.
 use Prim.Native.Nat.{ℕ, _≤_, _<_}
 use mathlib.Core.Path.{_≡_, sym, ap, _∙_, subst}
 use mathlib.Core.List.{List}
-use mathlib.Core.Bool.{Bool, true}
+use mathlib.Core.Bool.{Bool, true, false}
 use lib.ListN.{length}
 use lib.Pow.{areBytes}
+use contract.Lifetimes.{Lfts}
+use denote.Triple.Clauses.{AtExit}
+use borrow.Fn.World.{ArgsD, ResD}
+use borrow.Fn.Kinds.{endedOf}
 use Rattle.model.specs.Board.{emptyBoard, decode}
 use Rattle.model.specs.Soundness.{isSound}
 use Rattle.model.specs.Refusals.{causeNumber}
-use Rattle.model.specs.Step.{StepResult, stepState, stepOf}
+use Rattle.model.specs.Step.{answerLimit, stepState, StepResult, unanswered, writeAnswer, stepOf}
 use Rattle.model.specs.Replay.{ReplayResult, runOf, replayOf}
 use Rattle.model.proofs.RefusalTheorems.{tableRows, nthRow, lowest-number, number-applies}
-use Rattle.model.proofs.StepTheorems.{refused-board}
+use Rattle.model.proofs.StepTheorems.{unsound-refused, short-refused, arguments-accepted, refused-board, refused-written}
 use Rattle.model.proofs.ReplayTheorems.{ReplayPrefix, resultAfter, stopAtEnd, sound-prefix, sound-complete}
 use Rattle.confidentiality.specs.Confidentiality.{Noninterference}
 use Rattle.confidentiality.specs.Traces.{replayTrace}
 use Rattle.confidentiality.proofs.ConfidentialityTheorems.{results-confidential}
 use Rattle.step.specs.Results.{stepped}
+use Rattle.step.proofs.step as step
+use Rattle.step.proofs.step.Kinds as step-kinds
+use Rattle.step.proofs.step.Reads as step-reads
 use Rattle.step.specs.declared.Answer.{Answer}
 use Rattle.replay.specs.Results.{stopNumber, replayed}
+use Rattle.replay.proofs.replay as replay
+use Rattle.replay.proofs.replay.Kinds as replay-kinds
+use Rattle.replay.proofs.replay.Reads as replay-reads
 use Rattle.replay.specs.declared.Replayed.{Replayed}
+
+-- ---- the contracts, as their callers have them: of the arguments a, the result r and what was left at the end, e
+
+pub step-contract : (κs : Lfts 3) (a : ArgsD step.signature κs) (r : ResD step.signature κs) (e : AtExit (endedOf 3 step-kinds.ps step-kinds.r) κs)
+    → step-reads.Learnt κs a r e → stepped r (e .1 .0 .now) (e .1 .1 .0 .now) ≡ stepOf (a .0 .now) (a .1 .0 .now) (a .1 .1 .0 .now)
+step-contract κs a r e met = met
+
+pub replay-contract : (κs : Lfts 3) (a : ArgsD replay.signature κs) (r : ResD replay.signature κs)
+    (e : AtExit (endedOf 3 replay-kinds.ps replay-kinds.r) κs)
+    → replay-reads.Learnt κs a r e → replayed r (e .1 .0 .now) (e .1 .1 .0 .now) ≡ replayOf (a .0 .now) (a .1 .0 .now) (a .1 .1 .0 .now)
+replay-contract κs a r e met = met
 
 -- DEMAND 1. a is the answer of `step` to the message m on the board b with the buffer o, whatever bytes these are.
 module _ (m b o : List ℕ) (a : Answer) (b′ o′ : List ℕ) (met : stepped a b′ o′ ≡ stepOf m b o) where
@@ -41,11 +62,26 @@ module _ (m b o : List ℕ) (a : Answer) (b′ o′ : List ℕ) (met : stepped a
   refusal-lowest i h t =
       subst (λ (n : ℕ). (0 < n) × (n ≤ causeNumber (nthRow (tableRows m b o) i .0))) same-number (lowest-number m b o i h t)
 
+  -- "the accepted result": on a sound board and with room for the answer, number, answer and board are those of the step on the board's state
+  pub accepted-result : isSound b ≡ true → answerLimit ≤ length o → stepped a b′ o′ ≡ writeAnswer (stepState m (decode b)) b o
+  accepted-result sound room = met ∙ arguments-accepted m b o sound room
+
+  -- the column "Written": 0 for 1 and 2 ..
+  pub refused-unsound : isSound b ≡ false → stepped a b′ o′ ≡ unanswered 1 b o
+  refused-unsound unsound = met ∙ unsound-refused m b o unsound
+
+  pub refused-short : isSound b ≡ true → length o < answerLimit → stepped a b′ o′ ≡ unanswered 2 b o
+  refused-short sound short = met ∙ short-refused m b o sound short
+
+  -- .. and 4 from 3 on
+  pub refusal-written : isSound b ≡ true → answerLimit ≤ length o → (a .number ≡ 0 → ⊥) → a .written ≡ 4
+  refusal-written sound room n = ap (λ (x : StepResult). x .written) met ∙ refused-written m b o sound room (λ e. n (sym same-number ∙ e))
+
   -- "a refusal changes no byte of the board"
   pub refusal-unchanged : (a .number ≡ 0 → ⊥) → b′ ≡ b
   refusal-unchanged n = ap (λ (x : StepResult). x .board) met ∙ refused-board m b o (λ e. n (sym same-number ∙ e))
 
--- DEMAND 2. r is what `replay` returned for the journal j on a sound board b with the buffer o.
+-- DEMAND 2. r is what `replay` returned for the journal j on a sound board b with the buffer o; b is bytes, as every lent slice is.
 module _ (j b o : List ℕ) (r : Replayed) (b′ o′ : List ℕ) (met : replayed r b′ o′ ≡ replayOf j b o)
     (bytes : areBytes b ≡ true)
     (sound : isSound b ≡ true) where

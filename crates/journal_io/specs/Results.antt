@@ -5,13 +5,13 @@ use mathlib.Core.List.{List}
 use lib.ListN.{take}
 use Rattle.report.specs.Results.{reportResult}
 use Rattle.journal_io.specs.declared.Reading.{Reading}
-use Rattle.journal_io.specs.declared.Reading.the-variants.{Whole, Failed}
+use Rattle.journal_io.specs.declared.Reading.the-variants.{Read, Failed}
 
 abbrev pub sizeRead : Reading → ℕ
-sizeRead (Whole n) = n
+sizeRead (Read n) = n
 sizeRead Failed = 0
 
 -- of the journal's buffer and the text buffer
 abbrev pub textAfter : Reading → List ℕ → List ℕ → List ℕ
-textAfter (Whole n) j t = reportResult (take n j) t .text
+textAfter (Read n) j t = reportResult (take n j) t .text
 textAfter Failed j t = t

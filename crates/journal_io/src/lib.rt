@@ -10,19 +10,37 @@ use report::JOURNAL_LIMIT;
 use report::Report;
 use report::lines;
 
-// One byte more than a journal may have, so that a longer one is told from it.
-pub const JOURNAL_SIZE: usize = 60001;
+// A buffer that a journal which is too long overfills.
+pub const JOURNAL_SIZE: usize = JOURNAL_LIMIT + 1;
 
-// The size of a journal that was read whole, or that it could not be.
+// How many bytes were read, a whole journal or more than one may have, or that a journal could not be read whole.
 pub enum Reading {
-    Whole(usize),
+    Read(usize),
     Failed,
 }
 
-// Whether the input has come to its end, and the read that says so did not fail.
-fn at_end(fd: i32) -> bool {
-    let mut next = [0u8; 1];
-    libc::read(fd, &mut next) == 0
+// Reads to the end of the input, or until the buffer is full. One that is full and has no more bytes than a journal may have is too short to tell
+// whether the journal is whole.
+fn read_journal(fd: i32, journal: &mut [u8]) -> Reading
+    ensures { λ r. ⌜ sizeRead r ≤ length (now (journal .exit)) ⌝ }
+{
+    let size = journal.len();
+    let mut done = 0;
+    while done < size {
+        let got = libc::read(fd, &mut journal[done..]);
+        if got < 0 {
+            return Reading::Failed;
+        }
+        let more = io::count(got, &journal[done..]);
+        if more == 0 {
+            return Reading::Read(done);
+        }
+        done += more;
+    }
+    if size <= JOURNAL_LIMIT {
+        return Reading::Failed;
+    }
+    Reading::Read(size)
 }
 
 // Writes the text for a journal to standard output.
@@ -42,19 +60,20 @@ fn print_lines(journal: &[u8], text: &mut [u8])
     }
 }
 
-// Reads a journal to its end, or to where it is too long, and prints its lines, or none where it could not be read; what failed is said on
-// standard error.
+// Reads a journal and prints its lines, or none where it could not be read whole; what failed is said on standard error.
 pub fn print_journal(fd: i32, journal: &mut [u8], text: &mut [u8]) -> Reading
     ensures { λ r. ⌜ sizeRead r ≤ length (now (journal .exit)) ⌝ }
     ensures { λ r. ⌜ now (text .exit) ≡ textAfter r (now (journal .exit)) (now (text .entry)) ⌝ }
 {
-    let len = io::read_full(fd, journal);
-    if len <= JOURNAL_LIMIT {
-        if !at_end(fd) {
-            io::write_all(STDERR_FILENO, b"the journal could not be read to its end\n");
-            return Reading::Failed;
+    let reading = read_journal(fd, journal);
+    match reading {
+        Reading::Read(size) => {
+            print_lines(&journal[..size], text);
+            Reading::Read(size)
+        }
+        Reading::Failed => {
+            io::write_all(STDERR_FILENO, b"the journal could not be read whole\n");
+            Reading::Failed
         }
     }
-    print_lines(&journal[..len], text);
-    Reading::Whole(len)
 }
