@@ -2,7 +2,7 @@
 use journal_io::JOURNAL_SIZE;
 use journal_io::print_journal;
 use libc::STDOUT_FILENO;
-use report::TEXT_LIMIT;
+use report::REPORT_LIMIT;
 
 fn print_file(name: &[u8], journal: &mut [u8], text: &mut [u8]) {
     io::write_all(STDOUT_FILENO, name);
@@ -28,6 +28,6 @@ fn print_files(count: usize, name: &mut [u8], journal: &mut [u8], text: &mut [u8
 fn main() {
     let mut name = [0u8; 256];
     let mut journal = [0u8; JOURNAL_SIZE];
-    let mut text = [0u8; TEXT_LIMIT];
+    let mut text = [0u8; REPORT_LIMIT];
     print_files(os::arg_count(), &mut name, &mut journal, &mut text);
 }

@@ -26,12 +26,18 @@ use Rattle.model.proofs.SoundnessTheorems.{sound-state}
 use Rattle.model.proofs.StepTheorems.{valid-board}
 use Rattle.model.proofs.BufferLaws.{patch-start}
 use Rattle.model.proofs.JournalLaws.{all-frames, frames-size, frames-unread, length-frames, exchangeFrames, exchangeAnswers, lastState, length-run, frames-run, run-take}
-use Rattle.model.proofs.ReplayTheorems.{StopReason, noRoom, atEnd, valid-after, replay-prefix, replay-stops, replay-sound, replay-resumed, unread-resumed}
+use Rattle.model.proofs.ReplayTheorems.{stopAtEnd, StopReason, noRoom, atEnd, valid-after, replay-prefix, replay-stops, replay-sound, replay-resumed, unread-resumed}
 use Rattle.report.specs.Report.{exchangeLine, cutLine, runText}
 use Rattle.report.specs.MessageLines.{linesIn}
 use Rattle.report.proofs.LineLaws.{length-decimal}
 use Rattle.report.proofs.MessageLineLaws.{line-short}
 use Rattle.report.proofs.RunLines.{lines-run}
+
+-- a replay that has done all messages stops with 0 or 3, by whether bytes are left over
+by-rest : (j : List ℕ) {why : ℕ} {C : Type 0} → why ≡ stopAtEnd j → (eqb (length (unread j)) 0 ≡ true → why ≡ 0 → C)
+    → (eqb (length (unread j)) 0 ≡ false → why ≡ 3 → C) → C
+by-rest j e used cut =
+    cases (eqb (length (unread j)) 0) (λ q. used q (e ∙ ap (λ (t : Bool). cond t 0 3) q)) (λ q. cut q (e ∙ ap (λ (t : Bool). cond t 0 3) q))
 
 -- what r says of the text of the journal j, which begins at a place, from the state s
 pub record TextOf (s : State) (place : ℕ) (j o : List ℕ) (r : ReplayResult) : Type 0 where
@@ -167,16 +173,13 @@ module _ (j o : List ℕ) (s : State) (valid : ValidState s) where
       by-used : r .stop ≡ 0 → StopReason j o xs r → linesIn (r .messages) j (r .buffer) ≡ runText s place j
       by-used e (noRoom f l m) = absurd (omega arith)
       by-used e (atEnd m f) =
-          cases (eqb (length (unread j)) 0)
-          (λ q. all-done m ∙ sym (append-nil (flatten (map exchangeLine xs))) ∙ sym (rw q refl))
-          (λ q. absurd (let z : 0 ≡ 3 = sym e ∙ f ∙ ap (λ (t : Bool). cond t 0 3) q in omega arith))
+          by-rest j f (λ q z. all-done m ∙ sym (append-nil (flatten (map exchangeLine xs))) ∙ sym (rw q refl)) (λ q z. absurd (omega arith))
 
       by-cut : r .stop ≡ 3 → StopReason j o xs r → linesIn (r .messages) j (r .buffer) ++ cutLine (place + r .passed) ≡ runText s place j
       by-cut e (noRoom f l m) = absurd (omega arith)
       by-cut e (atEnd m f) =
-          cases (eqb (length (unread j)) 0)
-          (λ q. absurd (let z : 3 ≡ 0 = sym e ∙ f ∙ ap (λ (t : Bool). cond t 0 3) q in omega arith))
-          (λ q. ap₂ (λ (x : List ℕ) (n : ℕ). x ++ cutLine (place + n)) (all-done m) (all-passed m) ∙ sym (rw q refl))
+          by-rest j f (λ q z. absurd (omega arith))
+          (λ q z. ap₂ (λ (x : List ℕ) (n : ℕ). x ++ cutLine (place + n)) (all-done m) (all-passed m) ∙ sym (rw q refl))
 
       by-falls : r .stop ≡ 2 → answerLimit ≤ length o → StopReason j o xs r → 0 < r .passed
       by-falls e h (noRoom f l m) =
@@ -191,10 +194,7 @@ module _ (j o : List ℕ) (s : State) (valid : ValidState s) where
           let c = count in
           let p = passed in
           omega arith)
-      by-falls e h (atEnd m f) =
-          cases (eqb (length (unread j)) 0)
-          (λ q. absurd (let z : 2 ≡ 0 = sym e ∙ f ∙ ap (λ (t : Bool). cond t 0 3) q in omega arith))
-          (λ q. absurd (let z : 2 ≡ 3 = sym e ∙ f ∙ ap (λ (t : Bool). cond t 0 3) q in omega arith))
+      by-falls e h (atEnd m f) = by-rest j f (λ q z. absurd (omega arith)) (λ q z. absurd (omega arith))
 
       by-stops : r .stop ≡ 1 → (r .stop ≡ 0) ⊎ ((r .stop ≡ 2) ⊎ (r .stop ≡ 3)) → ⊥
       by-stops e (inl f) = omega arith

@@ -17,7 +17,7 @@ use Rattle.model.proofs.BoardTheorems.{decode-encode}
 use Rattle.model.proofs.EmptyBoard.{empty-encoded}
 use Rattle.model.proofs.Invariant.{empty-valid}
 use Rattle.report.specs.Report.{journalLimit, longWord, lineFeed, runText, reportOf}
-use Rattle.report.specs.Results.{textLimit, ReportResult, reported, reportResult}
+use Rattle.report.specs.Results.{reportLimit, ReportResult, reported, reportResult}
 use Rattle.report.specs.declared.Report.the-variants.{Written}
 use Rattle.report.proofs.ReplayText.{text-short}
 
@@ -32,7 +32,7 @@ unfolding reportOf
 text-run j h = rw (le-ltb journalLimit (length j) h) refl
 
 -- no report is longer than the limit
-pub report-short : (j : List ℕ) → length (reportOf j) ≤ textLimit
+pub report-short : (j : List ℕ) → length (reportOf j) ≤ reportLimit
 report-short j =
     cases (ltb journalLimit (length j)) (λ q. let e = ap length (text-long j (ltb-true journalLimit (length j) q)) in omega arith)
     (λ q.
@@ -46,18 +46,18 @@ report-short j =
 abbrev result : Option ℕ → List ℕ → ReportResult
 result n t = record { size = n; text = t }
 
-pub too-short : (j t : List ℕ) → length t < textLimit → result none t ≡ reportResult j t
+pub too-short : (j t : List ℕ) → length t < reportLimit → result none t ≡ reportResult j t
 unfolding reportResult
-too-short j t h = rw (lt-ltb (length t) textLimit h) refl
+too-short j t h = rw (lt-ltb (length t) reportLimit h) refl
 
-in-full : (j t : List ℕ) → textLimit ≤ length t → result (some (length (reportOf j))) (patch t 0 (reportOf j)) ≡ reportResult j t
+in-full : (j t : List ℕ) → reportLimit ≤ length t → result (some (length (reportOf j))) (patch t 0 (reportOf j)) ≡ reportResult j t
 unfolding reportResult
-in-full j t h = rw (le-ltb (length t) textLimit h) refl
+in-full j t h = rw (le-ltb (length t) reportLimit h) refl
 
 decode-empty : decode emptyBoard ≡ emptyState
 decode-empty = ap decode (sym empty-encoded) ∙ decode-encode emptyState (empty-valid .fits)
 
-module _ (j t : List ℕ) (room : textLimit ≤ length t) where
+module _ (j t : List ℕ) (room : reportLimit ≤ length t) where
   -- x is the report
   of-text : {x : List ℕ} → x ≡ reportOf j → result (some (length x)) (patch t 0 x) ≡ reportResult j t
   of-text e = ap (λ (y : List ℕ). result (some (length y)) (patch t 0 y)) e ∙ in-full j t room
@@ -76,13 +76,13 @@ module _ (j t : List ℕ) (room : textLimit ≤ length t) where
 -- what was written lies within the text buffer
 pub written-inside : (j t : List ℕ) {n : ℕ} {t′ : List ℕ} → reported (Written n) t′ ≡ reportResult j t → n ≤ length t′
 written-inside j t {n} {t′} e =
-    cases (ltb (length t) textLimit)
+    cases (ltb (length t) reportLimit)
     (λ q.
-    let z : some n ≡ none = ap (λ (r : ReportResult). r .size) (e ∙ sym (too-short j t (ltb-true (length t) textLimit q))) in
+    let z : some n ≡ none = ap (λ (r : ReportResult). r .size) (e ∙ sym (too-short j t (ltb-true (length t) reportLimit q))) in
     let f : _≡_ {A = ℕ} 0 1 = cc in
     omega arith)
     (λ q.
-    let room = ltb-false (length t) textLimit q in
+    let room = ltb-false (length t) reportLimit q in
     let r = e ∙ sym (in-full j t room) in
     let z : some n ≡ some (length (reportOf j)) = ap (λ (x : ReportResult). x .size) r in
     let size : n ≡ length (reportOf j) = cc in

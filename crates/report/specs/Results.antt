@@ -11,8 +11,8 @@ use Rattle.report.specs.declared.Report.{Report}
 use Rattle.report.specs.declared.Report.the-variants.{Written, TooShort}
 
 -- no text is longer (`report-short` of ReportLaws): 15,000 lines of at most fourteen bytes, and one of ten
-abbrev pub textLimit : ℕ
-textLimit = 14 * (journalLimit / 4) + 10
+abbrev pub reportLimit : ℕ
+reportLimit = 14 * (journalLimit / 4) + 10
 
 pub record ReportResult : Type 0 where
   pub size : Option ℕ
@@ -29,4 +29,4 @@ reported r t = record { size = reportSize r; text = t }
 -- a text buffer that is too short is left as it was; in one that is not, the text stands first, and the bytes behind it are as they were
 unfoldable pub reportResult : List ℕ → List ℕ → ReportResult
 reportResult j t =
-    cond (ltb (length t) textLimit) (record { size = none; text = t }) (record { size = some (length (reportOf j)); text = patch t 0 (reportOf j) })
+    cond (ltb (length t) reportLimit) (record { size = none; text = t }) (record { size = some (length (reportOf j)); text = patch t 0 (reportOf j) })

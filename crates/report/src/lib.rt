@@ -23,7 +23,7 @@ use replay::replay;
 pub const JOURNAL_LIMIT: usize = 60000;
 
 // No text is longer: 15,000 lines of at most fourteen bytes, and one of ten.
-pub const TEXT_LIMIT: usize = 14 * (JOURNAL_LIMIT / 4) + 10;
+pub const REPORT_LIMIT: usize = 14 * (JOURNAL_LIMIT / 4) + 10;
 
 // The answer buffer of the replays.
 const ANSWERS_SIZE: usize = 4096;
@@ -78,7 +78,7 @@ fn write_rest(
 pub fn lines(journal: &[u8], text: &mut [u8]) -> Report
     ensures { λ r. ⌜ reported r (now (text .exit)) ≡ reportResult (now (journal .entry)) (now (text .entry)) ⌝ }
 {
-    if text.len() < TEXT_LIMIT {
+    if text.len() < REPORT_LIMIT {
         return Report::TooShort;
     }
     if JOURNAL_LIMIT < journal.len() {
