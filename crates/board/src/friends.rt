@@ -18,14 +18,14 @@ use layout::bits::has_bit;
 use layout::number::read_u32;
 
 // The rows of slot i.
-pub fn friend_row(b: &[u8], i: usize) -> u32
+pub(crate) fn friend_row(b: &[u8], i: usize) -> u32
     requires { ⌜ (i < userLimit) × (length (now b) ≡ boardSize) ⌝ }
     ensures { λ r. ⌜ r ≡ friendRow (now (b .entry)) i ⌝ }
 {
     read_u32(b, USERS + i * USER_SIZE + USER_FRIENDS)
 }
 
-pub fn request_row(b: &[u8], i: usize) -> u32
+pub(crate) fn request_row(b: &[u8], i: usize) -> u32
     requires { ⌜ (i < userLimit) × (length (now b) ≡ boardSize) ⌝ }
     ensures { λ r. ⌜ r ≡ requestRow (now (b .entry)) i ⌝ }
 {
@@ -101,7 +101,7 @@ fn bits_below_count(b: &[u8]) -> bool
     true
 }
 
-pub fn friends_sound(b: &[u8]) -> bool
+pub(crate) fn friends_sound(b: &[u8]) -> bool
     requires { ⌜ BoardWithinLimits (now b) ⌝ }
     ensures { λ r. ⌜ r ≡ (friendsSymmetric (decode (now (b .entry))) && (noOwnBit (decode (now (b .entry))) && bitsBelowCount (decode (now (b .entry))))) ⌝ }
 {

@@ -12,21 +12,21 @@ use crate::POST_LIMIT;
 use crate::USER_LIMIT;
 use layout::number::read_u16;
 
-pub fn user_count(b: &[u8]) -> usize
+pub(crate) fn user_count(b: &[u8]) -> usize
     requires { ⌜ 16 ≤ length (now b) ⌝ }
     ensures { λ r. ⌜ r ≡ userCount (cutBoard (now (b .entry))) ⌝ }
 {
     read_u16(b, HEADER_USERS) as usize
 }
 
-pub fn post_count(b: &[u8]) -> usize
+pub(crate) fn post_count(b: &[u8]) -> usize
     requires { ⌜ 16 ≤ length (now b) ⌝ }
     ensures { λ r. ⌜ r ≡ postCount (cutBoard (now (b .entry))) ⌝ }
 {
     read_u16(b, HEADER_POSTS) as usize
 }
 
-pub fn pending_count(b: &[u8]) -> usize
+pub(crate) fn pending_count(b: &[u8]) -> usize
     requires { ⌜ 16 ≤ length (now b) ⌝ }
     ensures { λ r. ⌜ r ≡ pendingCount (cutBoard (now (b .entry))) ⌝ }
 {
@@ -34,7 +34,7 @@ pub fn pending_count(b: &[u8]) -> usize
 }
 
 // "its counts are within limits"
-pub fn counts_within_limits(b: &[u8]) -> bool
+pub(crate) fn counts_within_limits(b: &[u8]) -> bool
     requires { ⌜ 16 ≤ length (now b) ⌝ }
     ensures { λ r. ⌜ r ≡ countsWithinLimits (cutBoard (now (b .entry))) ⌝ }
 {

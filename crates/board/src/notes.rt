@@ -63,7 +63,7 @@ fn notes_to(b: &[u8], i: usize) -> bool
 }
 
 // "string lengths are within their limits, bytes past them zero", of notes, and "a note without its request bit is zero".
-pub fn notes_sound(b: &[u8]) -> bool
+pub(crate) fn notes_sound(b: &[u8]) -> bool
     requires { ⌜ BoardWithinLimits (now b) ⌝ }
     ensures { λ r. ⌜ r ≡ (forAll (isStringField noteLimit) (cutBoard (now (b .entry)) .notes) && notesRequested (decode (now (b .entry)))) ⌝ }
 {

@@ -117,7 +117,7 @@ fn pending_not_registered(b: &[u8]) -> bool
     true
 }
 
-pub fn numbers_sound(b: &[u8]) -> bool
+pub(crate) fn numbers_sound(b: &[u8]) -> bool
     requires { ⌜ BoardWithinLimits (now b) ⌝ }
     ensures { λ r. ⌜ r ≡ (numbersNotZero (decode (now (b .entry))) && (numbersDistinct (decode (now (b .entry))) && pendingNotRegistered (decode (now (b .entry))))) ⌝ }
 {

@@ -29,7 +29,7 @@ fn visibility_valid(b: &[u8]) -> bool
     numbers_below(b, POSTS, POST_SIZE, post_count(b), POST_VISIBILITY, 2)
 }
 
-pub fn posts_sound(b: &[u8]) -> bool
+pub(crate) fn posts_sound(b: &[u8]) -> bool
     requires { ⌜ BoardWithinLimits (now b) ⌝ }
     ensures { λ r. ⌜ r ≡ (ownersRegistered (decode (now (b .entry))) && visibilityValid (decode (now (b .entry)))) ⌝ }
 {

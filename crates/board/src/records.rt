@@ -90,7 +90,7 @@ fn filler_zero(b: &[u8]) -> bool
 }
 
 // The clauses about bytes, but for the notes of requests.
-pub fn records_sound(b: &[u8]) -> bool
+pub(crate) fn records_sound(b: &[u8]) -> bool
     requires { ⌜ BoardWithinLimits (now b) ⌝ }
     ensures { λ r. ⌜ r ≡ (unusedRecordsZero (cutBoard (now (b .entry))) && (tableStrings (cutBoard (now (b .entry))) && fillerZero (cutBoard (now (b .entry))))) ⌝ }
 {

@@ -10,7 +10,7 @@ use layout::run::all_zero;
 use layout::string::is_string_field;
 
 // Whether the records behind the first n are zero: they are one run.
-pub fn unused_zero(b: &[u8], base: usize, size: usize, limit: usize, n: usize) -> bool
+pub(crate) fn unused_zero(b: &[u8], base: usize, size: usize, limit: usize, n: usize) -> bool
     requires { ⌜ (n ≤ limit) × (base + limit * size ≤ length (now b)) ⌝ }
     ensures { λ r. ⌜ r ≡ forAll allZero (drop n (recordsAt (now (b .entry)) base size limit)) ⌝ }
 {
@@ -18,7 +18,7 @@ pub fn unused_zero(b: &[u8], base: usize, size: usize, limit: usize, n: usize) -
 }
 
 // Whether a field of each of n records holds a string.
-pub fn fields_hold_strings(
+pub(crate) fn fields_hold_strings(
     b: &[u8],
     base: usize,
     size: usize,
@@ -40,7 +40,14 @@ pub fn fields_hold_strings(
 }
 
 // Whether a two-byte number in each of n records is below a bound.
-pub fn numbers_below(b: &[u8], base: usize, size: usize, n: usize, at: usize, bound: usize) -> bool
+pub(crate) fn numbers_below(
+    b: &[u8],
+    base: usize,
+    size: usize,
+    n: usize,
+    at: usize,
+    bound: usize,
+) -> bool
     requires { ⌜ (at + 2 ≤ size) × (base + n * size ≤ length (now b)) ⌝ }
     ensures { λ r. ⌜ r ≡ forAll (numberBelow at bound) (recordsAt (now (b .entry)) base size n) ⌝ }
 {

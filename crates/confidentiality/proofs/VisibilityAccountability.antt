@@ -1,4 +1,4 @@
--- Who made a post public (source document 001, section 5.2): for each post of a state the history has its creation by its owner and, if it is
+-- Who made a post public (the CoSMed paper, section 5.2): for each post of a state the history has its creation by its owner and, if it is
 -- public, that owner's later message that made it so, the latest about its visibility. This holds of the empty state
 -- (`posts-traced-empty`) and is kept by every step (`posts-traced-next`); `public-post-traced` says it of a public post.
 use Prim.Native.Nat.{ℕ}

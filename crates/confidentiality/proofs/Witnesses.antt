@@ -7,6 +7,7 @@
 -- Pairs that break one hypothesis alone, and that the set tells apart:
 --     last-texts-needed       the last texts before an opening are the same
 --     common-last-texts, all-updates-needed   .. of all updates of the window, not of the purged ones only
+--     refused-last-texts, accepted-updates-needed   .. of accepted updates only
 --     closed-needed           a purged update is met while the post is closed
 --     number-needed           .. has the number of the post
 --     accepted-needed         .. is accepted
@@ -222,6 +223,36 @@ unfolding claimDefinitions
 all-updates-needed = (
   record { purged₁ = refl; purged₂ = refl; same-bytes = refl },
   (λ agree. told-apart textByte (some (68 ∷ [])) (some (65 ∷ [])) refl (agree .0 refl refl)),
+  told-apart (answerByte 3 6) _ _ refl,
+)
+
+-- 65 or 66, both purged, before a common 67 that is refused for a wrong password
+abbrev pub refusedUpdate : List ℕ
+refusedUpdate = targetString 0x0403 9 4 50 (67 ∷ [])
+
+abbrev pub refusedLast₁ : MarkedJournal
+refusedLast₁ = map retain created ++ (purge (setText 65) ∷ retain refusedUpdate ∷ opening)
+
+abbrev pub refusedLast₂ : MarkedJournal
+refusedLast₂ = map retain created ++ (purge (setText 66) ∷ retain refusedUpdate ∷ opening)
+
+-- the last texts of the windows if refused updates counted too
+abbrev pub lastSent : MarkedJournal → List (Option (List ℕ))
+lastSent j =
+    map (λ (w : Window). lastText (w .updates))
+    (windows (closedTo (onlyUser 7) 50) (λ (e : Event). isAbout 0x0403 50 (messageContent (e .frame))) [] [] (markedEvents j))
+
+-- with refused ones the updates have the same last text, the accepted ones do not
+pub refused-last-texts : (lastSent refusedLast₁ ≡ some (67 ∷ []) ∷ []) × (lastSent refusedLast₂ ≡ some (67 ∷ []) ∷ [])
+    × (lastTexts (onlyUser 7) 50 refusedLast₁ ≡ some (65 ∷ []) ∷ []) × (lastTexts (onlyUser 7) 50 refusedLast₂ ≡ some (66 ∷ []) ∷ [])
+unfolding claimDefinitions
+refused-last-texts = (refl, refl, refl, refl)
+
+pub accepted-updates-needed : LastTextsFail (onlyUser 7) 50 refusedLast₁ refusedLast₂
+unfolding claimDefinitions
+accepted-updates-needed = (
+  record { purged₁ = refl; purged₂ = refl; same-bytes = refl },
+  (λ agree. told-apart textByte (some (65 ∷ [])) (some (66 ∷ [])) refl (agree .0 refl refl)),
   told-apart (answerByte 3 6) _ _ refl,
 )
 

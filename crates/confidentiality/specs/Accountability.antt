@@ -1,4 +1,4 @@
--- Accountability (source document 001, section 5.2): friendship and publicity cannot be forged. Each can be traced back to accepted messages
+-- Accountability (the CoSMed paper, section 5.2): friendship and publicity cannot be forged. Each can be traced back to accepted messages
 -- of those who may bring it about; the latest message of a history comes first.
 use Prim.Native.Nat.{ℕ}
 use mathlib.Core.Path.{_≡_}

@@ -195,7 +195,7 @@ step-number msg b o = by-tests (not (isSound b)) (ltb (length o) answerLimit)
 
 -- ---- the order of the rows
 
--- the place of a cause in the order; in the base the order is that of the numbers
+-- the place of a cause in the order, which is that of the numbers
 unfoldable pub rank : Cause → ℕ
 rank c = indexOf (causeNumber c) refusalOrder
 

@@ -1,4 +1,4 @@
--- CoSMed's safety properties (source document 001, section 5.1) on every valid state: that of any sound board (`valid-board` of
+-- CoSMed's safety properties (the CoSMed paper, section 5.1) on every valid state: that of any sound board (`valid-board` of
 -- StepTheorems), so each state that a journal leads to from the empty board (`reached-valid` of Invariant):
 --     owner-registered       1. the owner of an existing post is an existing user
 --     friendship-symmetric   2. friendship is symmetric
