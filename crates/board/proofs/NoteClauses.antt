@@ -1,6 +1,6 @@
 -- Laws of notes: the words behind a note's string, rows of notes, and the clauses about notes as tests of the notes where they stand.
-use Prim.Native.Nat.{ℕ, zero, suc, _+_, _-_, _*_, _/_, _%_, _^_, min, _≤_, _<_}
-use native.Mathlib.Nat.{add-zero, zero-div}
+use Prim.Native.Nat.{ℕ, zero, suc, _+_, _-_, _*_, _/_, _^_, min, _≤_, _<_}
+use native.Mathlib.Nat.{add-zero}
 use native.Mathlib.Omega.{arith}
 use mathlib.Core.Path.{_≡_, refl, sym, ap, ap₂, _∙_}
 use mathlib.Core.List.{List, [], map}
@@ -9,6 +9,7 @@ use lib.ListN.{length, getD, List·getD-map, List·getD-eq-default}
 use lib.Seq.{getD-drop}
 use lib.Dec.{eqb, leb, ltb, lit≤}
 use lib.Bits.{bitOr}
+use lib.Count.{leadingZeros, leading-length}
 use lib.Pow.{areBytes}
 use borrow.Author.Tests.{eqb-true, le-leb, lt-leb}
 use Rattle.layout.specs.Bytes.{bytesAt, allZero}
@@ -18,7 +19,7 @@ use Rattle.layout.specs.Bits.{bitAt, hasBit}
 use Rattle.layout.proofs.BooleanLaws.{and-where, chain-stops, chain-goes-on, at-most-zero}
 use Rattle.layout.proofs.ByteLaws.{zero-join, zero-cover}
 use Rattle.layout.proofs.WordLaws.{word-zero, word-rest, or-width}
-use Rattle.layout.proofs.BitLaws.{bit-lt}
+use Rattle.layout.proofs.BitLaws.{bit-lt, bit-beyond}
 use Rattle.layout.proofs.StringFieldLaws.{stated-at, field-rest, holds-string, length-string}
 use Rattle.reader.specs.Fields.{noteLimit, numberIn}
 use Rattle.model.specs.Lists.{forAll, allBelow}
@@ -123,18 +124,34 @@ noteBy b row i j = noteWithin (bitAt row j * noteLimit) (noteField b i j)
 abbrev pub notesFit : List ℕ → ℕ → Bool
 notesFit b i = allBelow 32 (noteAllowed b i)
 
--- where there is no request they are one run of zeros
-pub empty-notes : (b : List ℕ) (i : ℕ) → i < 32 → length b ≡ boardSize → {row : ℕ} → row ≡ 0
+-- a row has no bit behind its highest one, which its leading zeros tell
+pub row-length : (row : ℕ) → row < 2 ^ 32 → row < 2 ^ (32 - leadingZeros 32 row)
+row-length row h =
+    let l = leading-length 32 row h in
+    let e : l .0 ≡ 32 - leadingZeros 32 row = (let s = l .1 in omega arith) in
+    rw (sym e) (l .2)
+
+-- behind the last request bit they are one run of zeros
+pub notes-behind : (b : List ℕ) (i row n : ℕ) → i < 32 → length b ≡ boardSize → row < 2 ^ n → n ≤ 32
+    → allBelow 32 (noteBy b row i) ≡ (allBelow n (noteBy b row i) && allZero (bytesAt b (23824 + i * 832 + n * 26) ((32 - n) * 26)))
+notes-behind b i row n h l small m =
+    let at : ℕ = 23824 + i * 832 in
+    let s : 32 ≡ n + (32 - n) = omega arith in
+    ap (λ (k : ℕ). allBelow k (noteBy b row i)) s ∙ below-plus (noteBy b row i) n (32 - n)
+    ∙ ap (λ (t : Bool). allBelow n (noteBy b row i) && t)
+    (below-same (32 - n) (λ (k : ℕ). noteBy b row i (n + k)) (λ (k : ℕ). allZero (bytesAt b (at + n * 26 + k * 26) 26))
+    (λ k q.
+    let place : at + (n + k) * 26 ≡ at + n * 26 + k * 26 = omega arith in
+    ap₂ (λ (t : ℕ) (f : List ℕ). noteWithin (t * noteLimit) f) (bit-beyond row n (n + k) small (omega arith)) (note-bytes b i (n + k) h (omega arith))
+    ∙ empty-note b (at + (n + k) * 26) (omega arith) ∙ ap (λ (o : ℕ). allZero (bytesAt b o 26)) place)
+    ∙ zero-records b 26 (32 - n) (at + n * 26))
+
+-- and all of them where there is no request
+empty-notes : (b : List ℕ) (i : ℕ) → i < 32 → length b ≡ boardSize → {row : ℕ} → row ≡ 0
     → allBelow 32 (noteBy b row i) ≡ allZero (bytesAt b (23824 + i * 832) 832)
+unfolding allBelow
 empty-notes b i h l {row} z =
-    below-same 32 (noteBy b row i) (λ (j : ℕ). allZero (bytesAt b (23824 + i * 832 + j * 26) 26))
-    (λ j k.
-    ap₂ (λ (t : ℕ) (f : List ℕ). noteWithin (t * noteLimit) f) (no-bit j) (note-bytes b i j h k)
-    ∙ empty-note b (23824 + i * 832 + j * 26) (omega arith))
-    ∙ zero-records b 26 32 (23824 + i * 832)
-  where
-    no-bit : (j : ℕ) → bitAt row j ≡ 0
-    no-bit j = unfold bitAt in ap (λ (x : ℕ). x / 2 ^ j % 2) z ∙ ap (λ (x : ℕ). x % 2) (zero-div (2 ^ j))
+    notes-behind b i row 0 h l (omega arith) (omega arith) ∙ ap (λ (o : ℕ). allZero (bytesAt b o 832)) (add-zero (23824 + i * 832))
 
 -- ---- the clauses about notes
 

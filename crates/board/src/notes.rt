@@ -42,24 +42,22 @@ fn is_note(b: &[u8], at: usize, most: usize) -> bool
     fits_width(word, n - first)
 }
 
-// The 32 notes to slot i: where nobody has requested it they are one run. Without its bit a note may have 0 bytes, so all 26 are zero.
+// The 32 notes to slot i: behind the last request bit they are one run. Without its bit a note may have 0 bytes, so all 26 are zero.
 fn notes_to(b: &[u8], i: usize) -> bool
     requires { ⌜ (i < userLimit) × (length (now b) ≡ boardSize) ⌝ }
     ensures { λ r. ⌜ r ≡ allBelow userLimit (noteAllowed (now (b .entry)) i) ⌝ }
 {
     let row = request_row(b, i);
     let at = NOTES + i * SLOT_NOTES_SIZE;
-    if row == 0 {
-        return all_zero(b, at, SLOT_NOTES_SIZE);
-    }
+    let n = USER_LIMIT - u32::leading_zeros(row) as usize;
     let mut j = 0;
-    while j < USER_LIMIT {
+    while j < n {
         if !is_note(b, at + j * NOTE_SIZE, bit_at(row, j) as usize * NOTE_LIMIT) {
             return false;
         }
         j += 1;
     }
-    true
+    all_zero(b, at + n * NOTE_SIZE, (USER_LIMIT - n) * NOTE_SIZE)
 }
 
 // "string lengths are within their limits, bytes past them zero", of notes, and "a note without its request bit is zero".
