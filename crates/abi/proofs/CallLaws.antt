@@ -1,0 +1,90 @@
+-- What the functions for C show at their returns, of plain numbers and lists.
+use Prim.Native.Nat.{ℕ, _+_, _*_, _/_, _%_, _≤_, _<_}
+use native.Mathlib.Omega.{arith}
+use mathlib.Core.Path.{_≡_, refl, sym, ap, ap₂, _∙_}
+use mathlib.Core.List.{List, _++_, append-assoc, append-nil}
+use mathlib.Core.Bool.{Bool, true, cond}
+use lib.ListN.{length, length-append, drop-of-length-le}
+use lib.Pow.{areBytes}
+use borrow.Author.Tests.{eq-eqb, ne-eqb}
+use Rattle.layout.specs.Bytes.{patch, writeAt}
+use Rattle.layout.specs.Numbers.{toLeBytes}
+use Rattle.layout.proofs.ByteLaws.{length-write, write-within, patch-join}
+use Rattle.layout.proofs.NumberLaws.{length-to}
+use Rattle.model.specs.Step.{answerLimit, StepResult, stepOf}
+use Rattle.model.specs.Replay.{ReplayResult, replayOf}
+use Rattle.model.proofs.BufferLaws.{patch-start}
+use Rattle.model.proofs.StepTheorems.{step-lengths}
+use Rattle.step.specs.Results.{stepped}
+use Rattle.step.specs.declared.Answer.{Answer}
+use Rattle.replay.specs.Results.{stopNumber, replayed}
+use Rattle.replay.specs.declared.Replayed.{Replayed}
+use Rattle.abi.specs.CallResults.{stepCalled, replayCalled, countBytes, countsSize, wrongCounts, replayCallOf}
+
+-- ---- the step
+
+-- the two parts of the one number
+packed-number : (w n : ℕ) → n < 65536 → (w * 65536 + n) % 65536 ≡ n
+packed-number w n h = omega arith
+
+packed-written : (w n : ℕ) → n < 65536 → (w * 65536 + n) / 65536 ≡ w
+packed-written w n h = omega arith
+
+module _ (m b o : List ℕ) {a : Answer} {b′ o′ : List ℕ} (done : stepped a b′ o′ ≡ stepOf m b o) where
+  pub written-short : areBytes b ≡ true → a .written ≤ answerLimit
+  written-short y = let l = step-lengths m b o y in omega (arith, ap (λ (x : StepResult). x .written) done)
+
+  pub step-called : a .number < 65536 → stepCalled (a .written * 65536 + a .number) b′ o′ ≡ stepOf m b o
+  step-called h =
+      (λ i. record { number = packed-number (a .written) (a .number) h i; written = packed-written (a .written) (a .number) h i; board = b′; buffer = o′ })
+      ∙ done
+
+-- ---- the replay
+
+-- three numbers of eight bytes, written one behind the other, are all of the counts
+pub counts-written : (c : List ℕ) (x : ReplayResult) → length c ≡ countsSize
+    → writeAt (writeAt (writeAt c 0 (toLeBytes 8 (x .messages))) 8 (toLeBytes 8 (x .passed))) 16 (toLeBytes 8 (x .written)) ≡ countBytes x
+unfolding countBytes
+counts-written c x h =
+    let m : List ℕ = toLeBytes 8 (x .messages) in
+    let p : List ℕ = toLeBytes 8 (x .passed) in
+    let w : List ℕ = toLeBytes 8 (x .written) in
+    let lm : length m ≡ 8 = length-to 8 (x .messages) in
+    let lp : length p ≡ 8 = length-to 8 (x .passed) in
+    let lw : length w ≡ 8 = length-to 8 (x .written) in
+    let lmp : length (m ++ p) ≡ 16 = length-append m p ∙ omega arith in
+    let lmpw : length (m ++ p ++ w) ≡ 24 = length-append (m ++ p) w ∙ omega arith in
+    let at-passed : 8 ≡ 0 + length m = omega arith in
+    let at-written : 16 ≡ 0 + length (m ++ p) = omega arith in
+    let first : writeAt c 0 m ≡ patch c 0 m = write-within c 0 m lm (omega arith) in
+    let second : writeAt (writeAt c 0 m) 8 p ≡ patch c 0 (m ++ p) =
+    write-within (writeAt c 0 m) 8 p lp (omega (arith, length-write c 0 m))
+    ∙ ap₂ (λ (y : List ℕ) (k : ℕ). patch y k p) first at-passed ∙ patch-join c 0 m p (omega arith)
+    in
+    let third : writeAt (writeAt (writeAt c 0 m) 8 p) 16 w ≡ patch c 0 (m ++ p ++ w) =
+    write-within (writeAt (writeAt c 0 m) 8 p) 16 w lw (omega (arith, length-write (writeAt c 0 m) 8 p, length-write c 0 m))
+    ∙ ap₂ (λ (y : List ℕ) (k : ℕ). patch y k w) second at-written ∙ patch-join c 0 (m ++ p) w (omega arith)
+    in
+    third ∙ patch-start c (m ++ p ++ w)
+    ∙ ap (λ (y : List ℕ). m ++ p ++ w ++ y) (drop-of-length-le c {i = length (m ++ p ++ w)} (omega arith))
+    ∙ append-nil (m ++ p ++ w) ∙ append-assoc m p w
+
+pub counts-refused : (j b o c : List ℕ) → (length c ≡ countsSize → ⊥) → replayCalled wrongCounts b o c ≡ replayCallOf j b o c
+unfolding replayCallOf
+counts-refused j b o c n = rw (ne-eqb (length c) countsSize n) refl
+
+module _ (j b o c : List ℕ) (r : Replayed) {b′ o′ c₁ c₂ c₃ : List ℕ} {n : ℕ} where
+  pub replay-called : length c ≡ countsSize → replayed r b′ o′ ≡ replayOf j b o → c₁ ≡ writeAt c 0 (toLeBytes 8 (r .messages))
+      → c₂ ≡ writeAt c₁ 8 (toLeBytes 8 (r .passed)) → c₃ ≡ writeAt c₂ 16 (toLeBytes 8 (r .written)) → n ≡ stopNumber (r .stop)
+      → replayCalled n b′ o′ c₃ ≡ replayCallOf j b o c
+  unfolding replayCallOf
+  replay-called h done e₁ e₂ e₃ stop =
+      let x : ReplayResult = replayOf j b o in
+      let counts : c₃ ≡ countBytes (replayed r b′ o′) =
+      e₃ ∙ ap (λ (y : List ℕ). writeAt y 16 (toLeBytes 8 (r .written))) (e₂ ∙ ap (λ (y : List ℕ). writeAt y 8 (toLeBytes 8 (r .passed))) e₁)
+      ∙ counts-written c (replayed r b′ o′) h
+      in
+      (λ i. replayCalled (stop i) b′ o′ (counts i))
+      ∙ (λ i. replayCalled (done i .stop) (done i .board) (done i .buffer) (countBytes (done i)))
+      ∙ sym (ap (λ (t : Bool). cond t (replayCalled (x .stop) (x .board) (x .buffer) (countBytes x)) (replayCalled wrongCounts b o c))
+      (eq-eqb (length c) countsSize h))

@@ -1,0 +1,51 @@
+/* The staff board kernel, for C and C++. Link target/staticlib/libabi.a, which `rt staticlib abi` writes; it is for x86-64 Linux. Messages, answers,
+   boards and the numbers that are returned are those of document 01, docs/papers/01-scope.md.
+
+   Who owns what: every buffer is the caller's. A call reads and writes the bytes that it is lent, keeps no address after it has returned, and
+   allocates nothing.
+   Buffers: a buffer is an address and a length in bytes. Any length and any contents are answered. The address is not null, even at length 0, and as
+   many bytes as the length says can be read from it on, and written where it is not const. No two buffers of a call overlap.
+   Threads: the kernel has no state of its own. Calls may run at the same time as long as no buffer that one of them writes is lent to another.
+   Stack: staff_board_replay calls itself for each message and takes 192 bytes of stack for it. An answer has four bytes at least, so an answer buffer of
+   n bytes bounds that by 48 n bytes; after a stop with 2 the rest of the journal can be replayed with the buffer emptied. */
+#ifndef STAFF_BOARD_H
+#define STAFF_BOARD_H
+
+#include <stddef.h>
+#include <stdint.h>
+
+#ifdef __cplusplus
+extern "C" {
+#endif
+
+/* The bytes of a board, those of the largest answer, and those of the counts of a replay. */
+enum { STAFF_BOARD_SIZE = 50448, STAFF_BOARD_ANSWER_LIMIT = 518, STAFF_BOARD_COUNTS_SIZE = 24 };
+
+/* staff_board_replay: the counts have not STAFF_BOARD_COUNTS_SIZE bytes. */
+enum { STAFF_BOARD_WRONG_COUNTS = 255 };
+
+/* Whether a board is sound: 1 if it is, else 0. All zeros is the empty board, which is. */
+uint32_t staff_board_sound(const uint8_t *board, size_t board_length);
+
+/* One message on a board. Returns the bytes written to the answer buffer times 65,536, plus the number: 0 for accepted, or the refusal, 1 to 12
+   (document 01, "The answer"). The answer is a frame whose kind is the number, at the start of the answer buffer; the bytes behind it are as they were.
+   With 1 and 2 nothing is written. A refusal leaves the board as it was. */
+uint32_t staff_board_step(const uint8_t *message, size_t message_length, uint8_t *board, size_t board_length, uint8_t *answer, size_t answer_length);
+
+/* The two parts of what staff_board_step returned. */
+static inline unsigned staff_board_number(uint32_t result) { return result % 65536; }
+static inline size_t staff_board_written(uint32_t result) { return result / 65536; }
+
+/* The messages of a journal on a board, one after the other, with their answers one behind the other at the start of the answer buffer; the bytes behind
+   them are as they were. Returns why it stopped: 0 the journal is used up, 1 the board is not 50,448 bytes or not sound, 2 fewer than 518 answer bytes
+   are left, 3 the rest of the journal does not begin with a whole message. The counts, STAFF_BOARD_COUNTS_SIZE bytes, become three numbers of eight bytes,
+   little-endian: messages done, journal bytes passed, answer bytes written; after a stop with 1 all are 0. For counts of another length it returns
+   STAFF_BOARD_WRONG_COUNTS, and does nothing. */
+uint32_t staff_board_replay(const uint8_t *journal, size_t journal_length, uint8_t *board, size_t board_length, uint8_t *answers,
+                            size_t answers_length, uint8_t *counts, size_t counts_length);
+
+#ifdef __cplusplus
+}
+#endif
+
+#endif

@@ -1,0 +1,113 @@
+//! The functions of the archive `libabi.a`, as `include/staff_board.h` declares them: a slice is its address and its length. A slice's address is never
+//! null, and `&mut` slices do not overlap with others, which is all that the kernel asks of its caller.
+
+use crate::{Answer, Replayed, Stop};
+
+extern "C" {
+    fn staff_board_sound(board: *const u8, board_len: usize) -> u32;
+    fn staff_board_step(
+        message: *const u8,
+        message_len: usize,
+        board: *mut u8,
+        board_len: usize,
+        answer: *mut u8,
+        answer_len: usize,
+    ) -> u32;
+    fn staff_board_replay(
+        journal: *const u8,
+        journal_len: usize,
+        board: *mut u8,
+        board_len: usize,
+        answers: *mut u8,
+        answers_len: usize,
+        counts: *mut u8,
+        counts_len: usize,
+    ) -> u32;
+}
+
+pub fn is_sound(board: &[u8]) -> bool {
+    // SAFETY: the address and the length are those of a slice that lives through the call.
+    unsafe { staff_board_sound(board.as_ptr(), board.len()) != 0 }
+}
+
+pub fn step(message: &[u8], board: &mut [u8], answer: &mut [u8]) -> Answer {
+    // SAFETY: the addresses and lengths are those of slices that live through the call, and the mutable ones overlap with no other.
+    let result = unsafe {
+        staff_board_step(
+            message.as_ptr(),
+            message.len(),
+            board.as_mut_ptr(),
+            board.len(),
+            answer.as_mut_ptr(),
+            answer.len(),
+        )
+    };
+    Answer {
+        number: (result % 65_536) as u16,
+        written: (result / 65_536) as usize,
+    }
+}
+
+pub fn replay(journal: &[u8], board: &mut [u8], answers: &mut [u8]) -> Replayed {
+    let mut counts = [0; 24];
+    // SAFETY: as in `step`; `counts` is a slice of its own.
+    let stop = unsafe {
+        staff_board_replay(
+            journal.as_ptr(),
+            journal.len(),
+            board.as_mut_ptr(),
+            board.len(),
+            answers.as_mut_ptr(),
+            answers.len(),
+            counts.as_mut_ptr(),
+            counts.len(),
+        )
+    };
+    let count = |i: usize| u64::from_le_bytes(counts[8 * i..8 * i + 8].try_into().expect("eight bytes")) as usize;
+    let stop = match stop {
+        0 => Stop::JournalUsed,
+        1 => Stop::BoardUnsound,
+        2 => Stop::BufferShort,
+        3 => Stop::FrameCut,
+        _ => unreachable!("the counts have 24 bytes"),
+    };
+    Replayed {
+        stop,
+        messages: count(0),
+        passed: count(1),
+        written: count(2),
+    }
+}
+
+#[cfg(test)]
+mod tests {
+    use super::staff_board_replay;
+
+    /// Counts of another length than 24 bytes: 255, and board, answers and counts are as they were.
+    #[test]
+    fn other_counts_are_refused() {
+        let start = [14, 0, 0x01, 0x01, 7, 0, 0, 0, 1, 0, 0, 0, 0, 0, 0, 0];
+        for length in [0, 1, 23, 25, 32] {
+            let mut board = vec![0; crate::BOARD_SIZE];
+            let mut answers = [3; crate::ANSWER_LIMIT];
+            let mut counts = vec![5; length];
+            // SAFETY: as in `replay`.
+            let number = unsafe {
+                staff_board_replay(
+                    start.as_ptr(),
+                    start.len(),
+                    board.as_mut_ptr(),
+                    board.len(),
+                    answers.as_mut_ptr(),
+                    answers.len(),
+                    counts.as_mut_ptr(),
+                    counts.len(),
+                )
+            };
+            assert_eq!(number, 255);
+            assert!(board.iter().all(|&byte| byte == 0));
+            assert!(answers.iter().all(|&byte| byte == 3));
+            assert!(counts.iter().all(|&byte| byte == 5));
+        }
+    }
+}
