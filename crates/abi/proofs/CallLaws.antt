@@ -1,15 +1,16 @@
 -- What the functions for C show at their returns, of plain numbers and lists.
 use Prim.Native.Nat.{ℕ, _+_, _*_, _/_, _%_, _≤_, _<_}
 use native.Mathlib.Omega.{arith}
-use mathlib.Core.Path.{_≡_, refl, sym, ap, ap₂, _∙_}
+use mathlib.Core.Path.{_≡_, refl, sym, ap, _∙_}
 use mathlib.Core.List.{List, _++_, append-assoc, append-nil}
 use mathlib.Core.Bool.{Bool, true, cond}
 use lib.ListN.{length, length-append, drop-of-length-le}
 use lib.Pow.{areBytes}
 use borrow.Author.Tests.{eq-eqb, ne-eqb}
-use Rattle.layout.specs.Bytes.{patch, writeAt}
+use Rattle.layout.specs.Bytes.{writeAt, bytesWritten, putBytes}
 use Rattle.layout.specs.Numbers.{toLeBytes}
-use Rattle.layout.proofs.ByteLaws.{length-write, write-within, patch-join}
+use Rattle.layout.proofs.ByteLaws.{length-write}
+use Rattle.layout.proofs.WrittenLaws.{bytes-put-within, put-behind, put-buffer}
 use Rattle.layout.proofs.NumberLaws.{length-to}
 use Rattle.model.specs.Step.{answerLimit, StepResult, stepOf}
 use Rattle.model.specs.Replay.{ReplayResult, replayOf}
@@ -54,18 +55,17 @@ counts-written c x h =
     let lw : length w ≡ 8 = length-to 8 (x .written) in
     let lmp : length (m ++ p) ≡ 16 = length-append m p ∙ omega arith in
     let lmpw : length (m ++ p ++ w) ≡ 24 = length-append (m ++ p) w ∙ omega arith in
-    let at-passed : 8 ≡ 0 + length m = omega arith in
-    let at-written : 16 ≡ 0 + length (m ++ p) = omega arith in
-    let first : writeAt c 0 m ≡ patch c 0 m = write-within c 0 m lm (omega arith) in
-    let second : writeAt (writeAt c 0 m) 8 p ≡ patch c 0 (m ++ p) =
-    write-within (writeAt c 0 m) 8 p lp (omega (arith, length-write c 0 m))
-    ∙ ap₂ (λ (y : List ℕ) (k : ℕ). patch y k p) first at-passed ∙ patch-join c 0 m p (omega arith)
+    let c₁ : List ℕ = writeAt c 0 m in
+    let c₂ : List ℕ = writeAt c₁ 8 p in
+    let first : bytesWritten 8 c₁ ≡ putBytes c 0 m = bytes-put-within c 0 m (sym lm) (omega arith) refl in
+    let second : bytesWritten 16 c₂ ≡ putBytes c 0 (m ++ p) =
+    put-behind c 0 m p (omega arith) first refl (bytes-put-within c₁ 8 p (sym lp) (omega (arith, length-write c 0 m)) refl)
     in
-    let third : writeAt (writeAt (writeAt c 0 m) 8 p) 16 w ≡ patch c 0 (m ++ p ++ w) =
-    write-within (writeAt (writeAt c 0 m) 8 p) 16 w lw (omega (arith, length-write (writeAt c 0 m) 8 p, length-write c 0 m))
-    ∙ ap₂ (λ (y : List ℕ) (k : ℕ). patch y k w) second at-written ∙ patch-join c 0 (m ++ p) w (omega arith)
+    let third : bytesWritten 24 (writeAt c₂ 16 w) ≡ putBytes c 0 (m ++ p ++ w) =
+    put-behind c 0 (m ++ p) w (omega arith) second refl
+    (bytes-put-within c₂ 16 w (sym lw) (omega (arith, length-write c₁ 8 p, length-write c 0 m)) refl)
     in
-    third ∙ patch-start c (m ++ p ++ w)
+    put-buffer c 0 (m ++ p ++ w) third ∙ patch-start c (m ++ p ++ w)
     ∙ ap (λ (y : List ℕ). m ++ p ++ w ++ y) (drop-of-length-le c {i = length (m ++ p ++ w)} (omega arith))
     ∙ append-nil (m ++ p ++ w) ∙ append-assoc m p w
 

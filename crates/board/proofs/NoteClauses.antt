@@ -9,7 +9,6 @@ use lib.ListN.{length, getD, List·getD-map, List·getD-eq-default}
 use lib.Seq.{getD-drop}
 use lib.Dec.{eqb, leb, ltb, lit≤}
 use lib.Bits.{bitOr}
-use lib.Count.{leadingZeros, leading-length}
 use lib.Pow.{areBytes}
 use borrow.Author.Tests.{eqb-true, le-leb, lt-leb}
 use Rattle.layout.specs.Bytes.{bytesAt, allZero}
@@ -123,13 +122,6 @@ noteBy b row i j = noteWithin (bitAt row j * noteLimit) (noteField b i j)
 -- all notes to slot i
 abbrev pub notesFit : List ℕ → ℕ → Bool
 notesFit b i = allBelow 32 (noteAllowed b i)
-
--- a row has no bit behind its highest one, which its leading zeros tell
-pub row-length : (row : ℕ) → row < 2 ^ 32 → row < 2 ^ (32 - leadingZeros 32 row)
-row-length row h =
-    let l = leading-length 32 row h in
-    let e : l .0 ≡ 32 - leadingZeros 32 row = (let s = l .1 in omega arith) in
-    rw (sym e) (l .2)
 
 -- behind the last request bit they are one run of zeros
 pub notes-behind : (b : List ℕ) (i row n : ℕ) → i < 32 → length b ≡ boardSize → row < 2 ^ n → n ≤ 32

@@ -47,6 +47,13 @@ width-leading x width h =
     let power = byte-power width in
     e ∙ sym (le-ltb x (256 ^ width) (omega arith)))
 
+-- a number of w digits has none above its leading zeros
+pub leading-below : (w x : ℕ) → x < 2 ^ w → x < 2 ^ (w - leadingZeros w x)
+leading-below w x h =
+    let l = leading-length w x h in
+    let e : l .0 ≡ w - leadingZeros w x = (let s = l .1 in omega arith) in
+    rw (sym e) (l .2)
+
 -- ---- a word and its bytes
 
 -- a word is zero when its bytes are

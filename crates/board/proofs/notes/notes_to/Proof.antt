@@ -1,4 +1,4 @@
--- `notes_to` meets its contract: no request bit stands at or above n (`row-length`). The loop's invariant: the notes from the slots before j fit.
+-- `notes_to` meets its contract: no request bit stands at or above n (`leading-below`). The loop's invariant: the notes from the slots before j fit.
 use Prim.Native.Nat.{ℕ, _+_, _-_, _*_, _^_, _<_}
 use native.Mathlib.Omega.{arith}
 use mathlib.Core.List.{List}
@@ -10,11 +10,12 @@ use Rattle.layout.specs.Bytes.{bytesAt, allZero}
 use Rattle.layout.specs.Bits.{bitAt}
 use Rattle.layout.proofs.BooleanLaws.{test-fails, test-holds, chain-stops, chain-goes-on}
 use Rattle.layout.proofs.BitLaws.{bit-lt}
+use Rattle.layout.proofs.WordLaws.{leading-below}
 use Rattle.reader.specs.Fields.{noteLimit}
 use Rattle.model.specs.Lists.{allBelow}
 use Rattle.board.specs.BoardTests.{requestRow, noteWithin, noteAllowed}
 use Rattle.board.proofs.LoopLaws.{Passed, passed-none, passed-next, passed-stops, passed-ends}
-use Rattle.board.proofs.NoteClauses.{note-bytes, row-length, notes-behind}
+use Rattle.board.proofs.NoteClauses.{note-bytes, notes-behind}
 use Rattle.board.proofs.notes.notes_to.Statement.{statement}
 use Rattle.board.proofs.notes.notes_to.Tie as tie
 
@@ -90,7 +91,7 @@ all-notes d =
     let row = d .request-row in
     let n : ℕ = 32 - leadingZeros 32 (row .result) in
     notes-behind (entry .args .b .now) (entry .args .i) (requestRow (entry .args .b .now) (entry .args .i)) n (entry .pre .0) (entry .pre .1)
-    (subst (λ (r : ℕ). r < 2 ^ n) (row .ensures) (row-length (row .result) (omega arith)))
+    (subst (λ (r : ℕ). r < 2 ^ n) (row .ensures) (leading-below 32 (row .result) (omega arith)))
     (omega arith)
 
 returns : tie.Need-returns Inv-loop μ-loop
