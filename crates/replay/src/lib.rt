@@ -1,12 +1,14 @@
 // The replay: a journal on a board.
 ghost use mathlib.Core.Path.{_≡_};
+ghost use mathlib.Core.Bool.{true};
+ghost use Rattle.model.specs.Soundness.{isSound};
 ghost use Rattle.model.specs.Replay.{replayOf};
 ghost use Rattle.replay.specs.Results.{replayed};
 ghost use Rattle.replay.specs.RestResults.{noneDone, Replays};
 use board::sound;
 use reader::frame::frame_length;
 use step::ANSWER_LIMIT;
-use step::step;
+use step::step_sound;
 
 // Why a replay stopped.
 pub enum Stop {
@@ -36,8 +38,9 @@ fn stopped(stop: Stop) -> Replayed
     }
 }
 
-// The replay of a journal, or of the rest of one, on a board that has been tested.
+// The replay of the rest of a journal. The board is sound, and each message leaves it so: it is not tested again.
 fn replay_rest(journal: &[u8], board: &mut [u8], out: &mut [u8]) -> Replayed
+    requires { ⌜ isSound (now board) ≡ true ⌝ }
     ensures { λ r. ⌜ Replays (now (journal .entry)) (now (board .entry)) (now (out .entry)) r (now (board .exit)) (now (out .exit)) ⌝ }
 {
     let len = journal.len();
@@ -51,7 +54,7 @@ fn replay_rest(journal: &[u8], board: &mut [u8], out: &mut [u8]) -> Replayed
     if size == 0 {
         return stopped(Stop::FrameCut);
     }
-    let answer = step(&journal[..size], board, out);
+    let answer = step_sound(&journal[..size], board, out);
     let written = answer.written;
     let rest = replay_rest(&journal[size..], board, &mut out[written..]);
     let stop = rest.stop;
@@ -66,6 +69,14 @@ fn replay_rest(journal: &[u8], board: &mut [u8], out: &mut [u8]) -> Replayed
     }
 }
 
+// The replay on a board that is known to be sound: it is not tested.
+pub fn replay_sound(journal: &[u8], board: &mut [u8], out: &mut [u8]) -> Replayed
+    requires { ⌜ isSound (now board) ≡ true ⌝ }
+    ensures { λ r. ⌜ replayed r (now (board .exit)) (now (out .exit)) ≡ replayOf (now (journal .entry)) (now (board .entry)) (now (out .entry)) ⌝ }
+{
+    replay_rest(journal, board, out)
+}
+
 // The messages of a journal on a board, one behind the other, with their answers in the buffer.
 pub fn replay(journal: &[u8], board: &mut [u8], out: &mut [u8]) -> Replayed
     ensures { λ r. ⌜ replayed r (now (board .exit)) (now (out .exit)) ≡ replayOf (now (journal .entry)) (now (board .entry)) (now (out .entry)) ⌝ }
@@ -73,5 +84,5 @@ pub fn replay(journal: &[u8], board: &mut [u8], out: &mut [u8]) -> Replayed
     if !sound(board) {
         return stopped(Stop::BoardUnsound);
     }
-    replay_rest(journal, board, out)
+    replay_sound(journal, board, out)
 }

@@ -1,14 +1,16 @@
 -- Lines written part by part.
-use Prim.Native.Nat.{ℕ, _+_, _≤_}
+use Prim.Native.Nat.{ℕ, _+_, _≤_, _<_}
+use native.Mathlib.Nat.{mod-eq-of-lt}
 use native.Mathlib.Omega.{arith}
 use mathlib.Core.Path.{_≡_, refl, sym, ap, _∙_}
-use mathlib.Core.List.{List, _++_}
+use mathlib.Core.List.{List, [], _∷_, _++_}
 use mathlib.Core.Bool.{Bool, true, false, cond}
 use lib.ListN.{length, length-append, length-drop}
 use lib.Dec.{ltb, lit≤}
+use borrow.Author.Tests.{lt-ltb}
 use Rattle.layout.specs.Bytes.{writeAt, bytesWritten, putBytes}
 use Rattle.layout.proofs.WrittenLaws.{bytes-put-within, put-count, put-length, put-behind}
-use Rattle.report.specs.Report.{hexadecimal, digitCount, decimal, cutWord, space, lineFeed, cutLine}
+use Rattle.report.specs.Report.{digitCharacter, hexadecimal, digitCount, decimal, cutWord, space, lineFeed, cutLine}
 
 -- a number has one to five digits
 pub count-within : (n : ℕ) → (1 ≤ digitCount n) × (digitCount n ≤ 5)
@@ -26,6 +28,11 @@ pub length-hexadecimal : (n : ℕ) → length (hexadecimal n) ≡ 4
 unfolding hexadecimal
 length-hexadecimal n = refl
 
+-- a single digit is a single character
+one-digit : (n : ℕ) → n < 10 → decimal n ≡ digitCharacter n ∷ []
+unfolding decimal digitCount
+one-digit n h = rw (lt-ltb n 10 h) (ap (λ (d : ℕ). digitCharacter d ∷ []) (mod-eq-of-lt h))
+
 -- at most five characters
 pub length-decimal : (n : ℕ) → length (decimal n) ≤ 5
 unfolding decimal
@@ -38,6 +45,11 @@ length-ended n = let d = length-decimal n in let l = length-append (decimal n) l
 module _ (t : List ℕ) (at : ℕ) where
   pub decimal-count : (n : ℕ) {len : ℕ} {t′ : List ℕ} → bytesWritten len t′ ≡ putBytes t at (decimal n) → len ≤ 5
   decimal-count n e = let l = length-decimal n in omega (arith, put-count t at (decimal n) e)
+
+  pub one-digit-written : {n d : ℕ} {t′ : List ℕ} → n < 10 → at + 1 ≤ length t → d ≡ digitCharacter n → t′ ≡ writeAt t at (d ∷ [])
+      → bytesWritten 1 t′ ≡ putBytes t at (decimal n)
+  one-digit-written {n} {d} h l e f =
+      bytes-put-within t at (d ∷ []) refl l f ∙ ap (λ (x : ℕ). putBytes t at (x ∷ [])) e ∙ ap (putBytes t at) (sym (one-digit n h))
 
   pub ended-count : (n : ℕ) {len : ℕ} {t′ : List ℕ} → bytesWritten len t′ ≡ putBytes t at (decimal n ++ lineFeed) → len ≤ 6
   ended-count n e = let l = length-ended n in omega (arith, put-count t at (decimal n ++ lineFeed) e)

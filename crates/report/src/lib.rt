@@ -17,7 +17,7 @@ use crate::message_lines::write_lines;
 use board::BOARD_SIZE;
 use layout::run::write_bytes;
 use replay::Stop;
-use replay::replay;
+use replay::replay_sound;
 
 // "a journal of at most 60,000 bytes"
 pub const JOURNAL_LIMIT: usize = 60000;
@@ -47,7 +47,7 @@ fn write_rest(
     requires { ⌜ (isSound (now board) ≡ true) × (answerLimit ≤ length (now answers)) × (place + length (now journal) ≤ journalLimit) × (2 * at + 7 * length (now journal) + 20 ≤ 2 * length (now text)) ⌝ }
     ensures { λ r. ⌜ bytesWritten r (now (text .exit)) ≡ putBytes (now (text .entry)) at (runText (decode (now (board .entry))) place (now (journal .entry))) ⌝ }
 {
-    let r = replay(journal, board, answers);
+    let r = replay_sound(journal, board, answers);
     let passed = r.passed;
     let messages = r.messages;
     let stop = r.stop;

@@ -55,6 +55,11 @@ fn write_decimal(text: &mut [u8], at: usize, n: usize) -> usize
     requires { ⌜ at + 5 ≤ length (now text) ⌝ }
     ensures { λ r. ⌜ bytesWritten r (now (text .exit)) ≡ putBytes (now (text .entry)) at (decimal n) ⌝ }
 {
+    // Most numbers that are printed have one digit.
+    if n < 10 {
+        write_bytes(text, at, &[digit_character(n)]);
+        return 1;
+    }
     let digits = [
         digit_character(n / 10000 % 10),
         digit_character(n / 1000 % 10),
@@ -78,8 +83,8 @@ fn write_line_end(text: &mut [u8], at: usize, n: usize) -> usize
 }
 
 // A word of two letters and a space, a kind, a number.
-fn write_line(text: &mut [u8], at: usize, word: &[u8], kind: usize, n: usize) -> usize
-    requires { ⌜ (at + 14 ≤ length (now text)) × (length (now word) ≡ 3) ⌝ }
+fn write_line(text: &mut [u8], at: usize, word: &[u8; 3], kind: usize, n: usize) -> usize
+    requires { ⌜ at + 14 ≤ length (now text) ⌝ }
     ensures { λ r. ⌜ bytesWritten r (now (text .exit)) ≡ putBytes (now (text .entry)) at (now (word .entry) ++ (hexadecimal kind ++ (space ++ (decimal n ++ lineFeed)))) ⌝ }
 {
     write_bytes(text, at, word);

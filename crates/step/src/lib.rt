@@ -1,10 +1,12 @@
 // The step: one message on a board.
 ghost use mathlib.Core.Path.{_≡_};
+ghost use mathlib.Core.Bool.{true};
 ghost use Prim.Native.Nat.{_+_, _≤_};
 ghost use lib.ListN.{length};
 ghost use Rattle.layout.specs.Bytes.{bytesAt};
 ghost use Rattle.reader.specs.Messages.{refusalNumber};
 ghost use Rattle.model.specs.Actions.{actionOf};
+ghost use Rattle.model.specs.Soundness.{isSound};
 ghost use Rattle.model.specs.Step.{answerLimit, stepOf};
 ghost use Rattle.model.proofs.SoundnessTheorems.{SoundState};
 ghost use Rattle.step.specs.ActionResults.{acted, actionResult};
@@ -164,6 +166,22 @@ fn act(msg: &[u8], board: &mut [u8], out: &mut [u8]) -> Reply
     }
 }
 
+// One message on a board that is known to be sound, with room for the answer: the board is not tested.
+pub fn step_sound(msg: &[u8], board: &mut [u8], out: &mut [u8]) -> Answer
+    requires { ⌜ (isSound (now board) ≡ true) × (answerLimit ≤ length (now out)) ⌝ }
+    ensures { λ r. ⌜ stepped r (now (board .exit)) (now (out .exit)) ≡ stepOf (now (msg .entry)) (now (board .entry)) (now (out .entry)) ⌝ }
+{
+    let reply = act(msg, board, out);
+    let number = reply.number;
+    let len = reply.len;
+    write_u16(out, 0, (2 + len) as u16);
+    write_u16(out, 2, number);
+    Answer {
+        number,
+        written: HEAD_SIZE + len,
+    }
+}
+
 // One message on a board: the board changed if it is accepted, the answer's frame in the buffer.
 pub fn step(msg: &[u8], board: &mut [u8], out: &mut [u8]) -> Answer
     ensures { λ r. ⌜ stepped r (now (board .exit)) (now (out .exit)) ≡ stepOf (now (msg .entry)) (now (board .entry)) (now (out .entry)) ⌝ }
@@ -180,13 +198,5 @@ pub fn step(msg: &[u8], board: &mut [u8], out: &mut [u8]) -> Answer
             written: 0,
         };
     }
-    let reply = act(msg, board, out);
-    let number = reply.number;
-    let len = reply.len;
-    write_u16(out, 0, (2 + len) as u16);
-    write_u16(out, 2, number);
-    Answer {
-        number,
-        written: HEAD_SIZE + len,
-    }
+    step_sound(msg, board, out)
 }

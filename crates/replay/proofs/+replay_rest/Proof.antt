@@ -3,7 +3,7 @@
 use Prim.Native.Nat.{ℕ, _+_, _-_, _≤_, _<_}
 use native.Mathlib.Omega.{arith}
 use native.Mathlib.Nat.{le-refl}
-use mathlib.Core.Path.{_≡_, sym, _∙_}
+use mathlib.Core.Path.{_≡_, sym, ap, _∙_}
 use mathlib.Core.Bool.{true}
 use lib.ListN.{length}
 use lib.Seq.{length-take-le}
@@ -15,6 +15,9 @@ use borrow.Rule.Slice.PartMut.{putMid, same-len-mid}
 use Rattle.layout.proofs.ByteLaws.{length-rest}
 use Rattle.layout.proofs.NumberLaws.{bytes-of}
 use Rattle.reader.proofs.FrameLaws.{frame-inside}
+use Rattle.model.specs.Soundness.{isSound}
+use Rattle.model.specs.Step.{StepResult}
+use Rattle.model.proofs.StepTheorems.{step-sound}
 use Rattle.replay.specs.RestResults.{Replays}
 use Rattle.replay.proofs.ReplayLaws.{answer-inside, journal-used, buffer-short, frame-cut, message-done}
 use Rattle.replay.proofs.replay_rest.Reads as rest
@@ -22,7 +25,7 @@ use Rattle.replay.proofs.replay_rest.Kinds as kinds
 use Rattle.replay.proofs.+replay_rest.Lts-replay_rest as lts
 use Rattle.reader.proofs.frame.frame_length.Reads as frame-length-reads
 use Rattle.replay.proofs.stopped.Reads as stopped-reads
-use Rattle.step.proofs.step.Reads as step-reads
+use Rattle.step.proofs.step_sound.Reads as step-reads
 use Rattle.replay.proofs.+replay_rest.{statement}
 use Rattle.replay.proofs.+replay_rest.Tie.{close}
 
@@ -54,7 +57,7 @@ abbrev Found : ℕ → Type 0
 Found t = lts.Else3 (claims t) (at-measure t) rest.Post
 
 abbrev Stepped : ℕ → Type 0
-Stepped t = lts.After-step (claims t) (at-measure t) rest.Post
+Stepped t = lts.After-step-sound (claims t) (at-measure t) rest.Post
 
 abbrev Replayed-rest : ℕ → Type 0
 Replayed-rest t = lts.After-replay-rest (claims t) (at-measure t) rest.Post
@@ -74,9 +77,16 @@ frame-in c = omega (arith, c .before .frame-length .ensures, frame-inside (entry
 board-bytes : {t : ℕ} (c : Found t) → areBytes (entry c .args .board .now) ≡ true
 board-bytes c = bytes-of (entry c .args .board .now) (λ i h. omega (arith, c .before .before .before .before .before .slice-known .given i))
 
-written-in : {t : ℕ} (c : Stepped t) → c .step .result .written ≤ length (c .step .last .1 .1 .0)
+written-in : {t : ℕ} (c : Stepped t) → c .step-sound .result .written ≤ length (c .step-sound .last .1 .1 .0)
 written-in c =
-    answer-inside _ _ _ (board-bytes (found c)) (c .step .result) (c .step .last .1 .0) (c .step .last .1 .1 .0) (c .step .ensures)
+    answer-inside _ _ _ (board-bytes (found c)) (c .step-sound .result) (c .step-sound .last .1 .0) (c .step-sound .last .1 .1 .0) (c .step-sound .ensures)
+
+-- the board that a message left is sound
+board-left : {t : ℕ} (c : Stepped t) → isSound (c .step-sound .last .1 .0) ≡ true
+board-left c =
+    let f = found c in
+    ap (λ (x : StepResult). isSound (x .board)) (c .step-sound .ensures)
+    ∙ step-sound _ (entry f .args .board .now) (entry f .args .out .now) (board-bytes f) (entry f .pre .1)
 
 -- the message and the rest together
 whole : {t : ℕ} (c : Replayed-rest t) →
@@ -87,17 +97,17 @@ whole : {t : ℕ} (c : Replayed-rest t) →
       stop = c .replay-rest .result .stop;
       messages = 1 + c .replay-rest .result .messages;
       passed = found d .before .frame-length .result + c .replay-rest .result .passed;
-      written = d .step .result .written + c .replay-rest .result .written;
+      written = d .step-sound .result .written + c .replay-rest .result .written;
     })
     (c .replay-rest .last .1 .0)
-    (putMid (d .step .result .written) (length (d .step .last .1 .1 .0) - d .step .result .written) (d .step .last .1 .1 .0) (c .replay-rest .last .1 .1 .0))
+    (putMid (d .step-sound .result .written) (length (d .step-sound .last .1 .1 .0) - d .step-sound .result .written) (d .step-sound .last .1 .1 .0) (c .replay-rest .last .1 .1 .0))
 whole c =
     let d = step-done c in
     let f = found d in
     let a = entry f .args in
-    message-done (a .journal .now) (a .board .now) (a .out .now) (board-bytes f) (f .before .frame-length .result) (d .step .result)
-    (d .step .last .1 .0) (d .step .last .1 .1 .0) (c .replay-rest .result) (c .replay-rest .last .1 .0) (c .replay-rest .last .1 .1 .0)
-    (f .before .before .before .if1 .left) (f .before .before .if2 .left) (f .before .frame-length .ensures) (f .if3 .left) (d .step .ensures)
+    message-done (a .journal .now) (a .board .now) (a .out .now) (board-bytes f) (f .before .frame-length .result) (d .step-sound .result)
+    (d .step-sound .last .1 .0) (d .step-sound .last .1 .1 .0) (c .replay-rest .result) (c .replay-rest .last .1 .0) (c .replay-rest .last .1 .1 .0)
+    (f .before .before .before .if1 .left) (f .before .before .if2 .left) (f .before .frame-length .ensures) (f .if3 .left) (d .step-sound .ensures)
     (c .replay-rest .ensures)
 
 -- ---- the needs
@@ -114,10 +124,13 @@ returns-3 t c =
     frame-cut _ _ _ (c .stopped3 .ensures) (cut .before .before .before .if1 .left) (cut .before .before .if2 .left)
     (sym (cut .before .frame-length .ensures) ∙ cut .if3 .taken)
 
-slice-aggregate-step : (t : ℕ) → lts.Need-slice-aggregate-step (claims t) (at-measure t) rest.Post
-slice-aggregate-step t c =
+slice-aggregate-step-sound : (t : ℕ) → lts.Need-slice-aggregate-step-sound (claims t) (at-measure t) rest.Post
+slice-aggregate-step-sound t c =
     let f = c .before in
     sym (length-take-le (f .before .frame-length .result) (entry f .args .journal .now) (frame-in f))
+
+step-sound-requires : (t : ℕ) → lts.Need-step-sound-requires (claims t) (at-measure t) rest.Post
+step-sound-requires t c κs = let f = c .before .before .before in (entry f .pre .1, f .before .before .if2 .left)
 
 -- the parts lent on
 sub-replay-rest : (t : ℕ) → lts.Need-sub-replay-rest (claims t) (at-measure t) rest.Post
@@ -134,8 +147,10 @@ part-replay-rest-start-2 t c = written-in (c .before .before .before .before .be
 
 replay-rest-requires : (t : ℕ) → lts.Need-replay-rest-requires (claims t) (at-measure t) rest.Post
 replay-rest-requires t c κs =
-    let f = found (c .before .before .before .before .before .before .before) in
-    (omega (arith, length-rest (entry f .args .journal .now) (f .before .frame-length .result), frame-in f, f .if3 .left, entry f .pre .0), tt)
+    let f = found (c .before .before .before .before .before .before .before) in (
+      omega (arith, length-rest (entry f .args .journal .now) (f .before .frame-length .result), frame-in f, f .if3 .left, entry f .pre .0),
+      board-left (c .before .before .before .before .before .before .before),
+    )
 
 -- where the counts have been added up
 abbrev rest-done : {t : ℕ} → lts.After-struct-known3 (claims t) (at-measure t) rest.Post → Replayed-rest t
@@ -160,12 +175,12 @@ add-all-written t c =
 same-length : (t : ℕ) → lts.Need-same-length (claims t) (at-measure t) rest.Post
 same-length t c =
     let r = rest-done c in
-    r .replay-rest .kept .1 .0 ∙ step-done r .step .kept .1 .0
+    r .replay-rest .kept .1 .0 ∙ step-done r .step-sound .kept .1 .0
 
 same-length-2 : (t : ℕ) → lts.Need-same-length-2 (claims t) (at-measure t) rest.Post
 same-length-2 t c =
     let r = rest-done c in
-    let d = step-done r .step in
+    let d = step-done r .step-sound in
     same-len-mid (d .result .written) (length (d .last .1 .1 .0) - d .result .written) (d .last .1 .1 .0) (r .replay-rest .last .1 .1 .0)
     (r .replay-rest .kept .1 .1 .0) ∙ d .kept .1 .1 .0
 
@@ -182,8 +197,8 @@ pub +replay-rest-spec : {M : Type 1} → statement M
     (λ c κs. search needs)
     (λ c κs. search needs)
     (returns-3 t)
-    (slice-aggregate-step t)
-    (λ c κs. search needs)
+    (slice-aggregate-step-sound t)
+    (step-sound-requires t)
     (sub-replay-rest t)
     (part-replay-rest-start t)
     (λ c. le-refl _)

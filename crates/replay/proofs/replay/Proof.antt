@@ -1,18 +1,15 @@
--- `replay` meets its contract: a board that is not sound stops it, and from a sound one the replay of the rest is that of the whole.
+-- `replay` meets its contract: a board that is not sound stops it, and on a sound one it is `replay_sound`.
 use borrow.Author.Needs.{needs}
 use Rattle.layout.proofs.BooleanLaws.{test-fails, test-holds}
-use Rattle.replay.proofs.ReplayLaws.{board-unsound, board-sound}
+use Rattle.replay.proofs.ReplayLaws.{board-unsound}
 use Rattle.replay.proofs.replay.Statement.{statement}
 use Rattle.replay.proofs.replay.Tie as tie
 
 returns : tie.Need-returns
 returns c = board-unsound _ _ _ (c .stopped .ensures) (test-fails (c .before .before .sound .ensures) (c .before .if1 .taken))
 
-returns-2 : tie.Need-returns-2
-returns-2 c =
-    let r = c .before .before .before .before in
-    let test = r .before .before .before in
-    board-sound _ _ _ (test-holds (test .before .sound .ensures) (test .if1 .left)) (r .replay-rest .ensures)
+replay-sound-requires : tie.Need-replay-sound-requires
+replay-sound-requires c κs = let test = c .before .before in test-holds (test .before .sound .ensures) (test .if1 .left)
 
 pub replay-spec : {M : Type 1} → statement M
 replay-spec =
@@ -22,7 +19,7 @@ replay-spec =
     (λ c κs. search needs)
     (λ c. search needs)
     returns
-    (λ c κs. search needs)
+    replay-sound-requires
     (λ c. search needs)
     (λ c. search needs)
-    returns-2)
+    (λ c. search needs))

@@ -24,7 +24,7 @@ use Rattle.report.proofs.ReplayText.{TextOf, sound-text, text-short, cu
 use Rattle.report.proofs.write_rest.Reads as rest
 use Rattle.report.proofs.write_rest.Kinds as kinds
 use Rattle.report.proofs.+write_rest.Lts-write_rest as lts
-use Rattle.replay.proofs.replay.Reads as replay-reads
+use Rattle.replay.proofs.replay_sound.Reads as replay-reads
 use Rattle.report.proofs.line.write_cut.Reads as write-cut-reads
 use Rattle.report.proofs.message_lines.write_lines.Reads as write-lines-reads
 use Rattle.report.proofs.+write_rest.{statement}
@@ -55,7 +55,7 @@ claims t = (
 -- ---- places: behind the replay, and behind the lines of its messages
 
 abbrev Done : ℕ → Type 0
-Done t = lts.After-replay (claims t) (at-measure t) rest.Post
+Done t = lts.After-replay-sound (claims t) (at-measure t) rest.Post
 
 abbrev Lines : ℕ → Type 0
 Lines t = lts.After-write-lines (claims t) (at-measure t) rest.Post
@@ -71,22 +71,22 @@ board-bytes c = bytes-of (entry c .args .board .now) (λ i h. omega (arith, c .b
 
 -- what the replay says of the text
 text-of : {t : ℕ} (c : Done t) → let a = entry c .args in
-    TextOf (decode (a .board .now)) (a .place) (a .journal .now) (a .answers .now) (replayed (c .replay .result) (c .replay .last .1 .0) (c .replay .last .1 .1 .0))
+    TextOf (decode (a .board .now)) (a .place) (a .journal .now) (a .answers .now) (replayed (c .replay-sound .result) (c .replay-sound .last .1 .0) (c .replay-sound .last .1 .1 .0))
 text-of c =
     let a = entry c .args in
-    subst (TextOf (decode (a .board .now)) (a .place) (a .journal .now) (a .answers .now)) (sym (c .replay .ensures))
+    subst (TextOf (decode (a .board .now)) (a .place) (a .journal .now) (a .answers .now)) (sym (c .replay-sound .ensures))
     (sound-text (a .place) (a .journal .now) (a .board .now) (a .answers .now) (board-bytes c) (entry c .pre .1 .0))
 
 lines-done : {t : ℕ} (c : Lines t) → let d = done c in let a = entry d .args in
     bytesWritten (c .write-lines .result) (c .write-lines .last .1 .1 .1 .0)
-    ≡ putBytes (a .text .now) (a .at) (linesIn (d .replay .result .messages) (a .journal .now) (d .replay .last .1 .1 .0))
+    ≡ putBytes (a .text .now) (a .at) (linesIn (d .replay-sound .result .messages) (a .journal .now) (d .replay-sound .last .1 .1 .0))
 lines-done c = c .write-lines .ensures
 
 -- they leave room for the text of the rest
-lines-size : {t : ℕ} (c : Lines t) → c .write-lines .result ≤ 14 * done c .replay .result .messages
+lines-size : {t : ℕ} (c : Lines t) → c .write-lines .result ≤ 14 * done c .replay-sound .result .messages
 lines-size c =
     let d = done c in
-    omega (arith, put-count _ _ _ (lines-done c), lines-short (d .replay .result .messages) (entry d .args .journal .now) (d .replay .last .1 .1 .0))
+    omega (arith, put-count _ _ _ (lines-done c), lines-short (d .replay-sound .result .messages) (entry d .args .journal .now) (d .replay-sound .last .1 .1 .0))
 
 -- ---- the needs
 
@@ -137,11 +137,11 @@ write-rest-requires t c κs =
     let w = told e in
     let d = done w in
     let j = entry d .args .journal .now in
-    let p = d .replay .result .passed in
+    let p = d .replay-sound .result .passed in
     let x = text-of d in
     let l = length-rest j p in
     let kept = w .write-lines .kept in
-    let same = d .replay .kept in
+    let same = d .replay-sound .kept in
     let fall = x .falls (ap stopNumber (e .enum-told3 .given .1)) (entry d .pre .1 .1) in (
       omega (arith, entry d .pre .0),
       (x .sound, omega (arith, entry d .pre .1 .1), omega (arith, entry d .pre .1 .2), omega (arith, lines-size w, x .few, entry d .pre .1 .3)),
@@ -158,15 +158,15 @@ rest-written c =
     let d = done w in
     let a = entry d .args in
     let x = text-of d in
-    let p = d .replay .result .passed in
-    let n = lines-short (d .replay .result .messages) (a .journal .now) (d .replay .last .1 .1 .0) in
+    let p = d .replay-sound .result .passed in
+    let n = lines-short (d .replay-sound .result .messages) (a .journal .now) (d .replay-sound .last .1 .1 .0) in
     let l = length-drop p (a .journal .now) in
-    let m = text-short (decode (d .replay .last .1 .0)) (a .place + p) (drop p (a .journal .now)) in
+    let m = text-short (decode (d .replay-sound .last .1 .0)) (a .place + p) (drop p (a .journal .now)) in
     let f = x .few in
     let i = x .inside in
-    put-behind (a .text .now) (a .at) _ (runText (decode (d .replay .last .1 .0)) (a .place + p) (drop p (a .journal .now)))
+    put-behind (a .text .now) (a .at) _ (runText (decode (d .replay-sound .last .1 .0)) (a .place + p) (drop p (a .journal .now)))
     (omega (arith, entry d .pre .1 .3)) (lines-done w) refl
-    (c .write-rest .ensures ∙ ap (λ (y : List ℕ). putBytes (w .write-lines .last .1 .1 .1 .0) (a .at + w .write-lines .result) (runText (decode (d .replay .last .1 .0)) (a .place + p) y)) (part-to-end (a .journal .now) p))
+    (c .write-rest .ensures ∙ ap (λ (y : List ℕ). putBytes (w .write-lines .last .1 .1 .1 .0) (a .at + w .write-lines .result) (runText (decode (d .replay-sound .last .1 .0)) (a .place + p) y)) (part-to-end (a .journal .now) p))
     ∙ ap (putBytes (a .text .now) (a .at)) (x .resumed)
 
 returns-3 : (t : ℕ) → lts.Need-returns-3 (claims t) (at-measure t) rest.Post
@@ -212,11 +212,11 @@ cut-written c =
     let d = done w in
     let a = entry d .args in
     let x = text-of d in
-    let n = lines-short (d .replay .result .messages) (a .journal .now) (d .replay .last .1 .1 .0) in
-    let m = cut-short (a .place + d .replay .result .passed) in
+    let n = lines-short (d .replay-sound .result .messages) (a .journal .now) (d .replay-sound .last .1 .1 .0) in
+    let m = cut-short (a .place + d .replay-sound .result .passed) in
     let f = x .few in
     let i = x .inside in
-    put-behind (a .text .now) (a .at) _ (cutLine (a .place + d .replay .result .passed)) (omega (arith, entry d .pre .1 .3)) (lines-done w) refl
+    put-behind (a .text .now) (a .at) _ (cutLine (a .place + d .replay-sound .result .passed)) (omega (arith, entry d .pre .1 .3)) (lines-done w) refl
     (c .write-cut .ensures)
     ∙ ap (putBytes (a .text .now) (a .at)) (x .cut (ap stopNumber (e .enum-told4 .given .1)))
 

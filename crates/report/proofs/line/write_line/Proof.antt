@@ -15,7 +15,7 @@ returns c =
     let kind = gap .before .before .before .before .before in
     let word = kind .before .before .before .before in
     let entry = word .before .before .before .before in
-    line-written _ _ _ _ _ (entry .pre .0) (entry .pre .1) (word .write-bytes .ensures) (kind .write-hexadecimal .ensures)
+    line-written _ _ _ _ _ (entry .pre) (omega arith) (word .write-bytes .ensures) (kind .write-hexadecimal .ensures)
     (gap .write-bytes2 .ensures) (end .write-line-end .ensures)
 
 pub write-line-spec : {M : Type 1} → statement M
