@@ -42,7 +42,7 @@ module _ (s : State) (u p : ℕ) where
   unfolding afterLogin
   behind-login rows e = rows-passed (afterLogin s u p []) rows e .1
 
-  pub user-passed : (v : ℕ) → firstNumber (userRows s u p v []) ≡ 0 → (isRegistered s u ≡ true) × (isRegistered s v ≡ true)
+  user-passed : (v : ℕ) → firstNumber (userRows s u p v []) ≡ 0 → (isRegistered s u ≡ true) × (isRegistered s v ≡ true)
   unfolding userRows
   user-passed v e =
       let row : List RefusalRow = (userMissing, not (isRegistered s v)) ∷ [] in
@@ -76,7 +76,7 @@ place-within : {i place count limit : ℕ} → i ≡ place → place < count →
 place-within e h l = record { used = omega arith; room = omega arith }
 
 -- i is the place that was found
-pub registered-slot-within : {b : List ℕ} → SoundState b → (u : ℕ) → isRegistered (decode b) u ≡ true → {i : ℕ} → i ≡ userSlot (decode b) u → SlotWithin b i
+registered-slot-within : {b : List ℕ} → SoundState b → (u : ℕ) → isRegistered (decode b) u ≡ true → {i : ℕ} → i ≡ userSlot (decode b) u → SlotWithin b i
 registered-slot-within {b = b} w u h e = place-within e (slot-below (decode b) u h) (users-limit w)
 
 -- k is the number that the test of the rows gave

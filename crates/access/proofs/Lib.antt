@@ -1,3 +1,4 @@
 pub mod RefusalLaws
 pub mod AcceptedPlaces
 pub mod RecordReads
+pub mod RightLaws

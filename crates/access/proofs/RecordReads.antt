@@ -5,7 +5,7 @@ use mathlib.Core.Path.{_≡_, sym, ap, ap₂, _∙_}
 use mathlib.Core.List.{List, map}
 use mathlib.Core.Bool.{Bool, cond}
 use lib.ListN.{length, getD, length-map, List·getD-eq-default}
-use lib.Dec.{ltb}
+use lib.Dec.{eqb, ltb}
 use borrow.Table.Steps.{cases}
 use borrow.Author.Tests.{ltb-true, ltb-false}
 use Rattle.bytes.specs.Bytes.{indexOf}
@@ -13,11 +13,12 @@ use Rattle.layout.specs.Bits.{hasBit}
 use Rattle.layout.specs.Tables.{recordNumbers}
 use Rattle.layout.proofs.TableLaws.{record-within}
 use Rattle.model.specs.Lists.{contains}
-use Rattle.model.specs.State.{User, Post, State, noUser, noPost, userAt, postAt}
+use Rattle.model.specs.State.{User, Post, Pending, State, userNumbers, postNumbers, pendingNumbers, noUser, noPost, userAt, postAt}
 use Rattle.model.specs.Board.{decode}
-use Rattle.model.specs.Lookups.{userSlot, postPlace, userNumbered, postNumbered}
+use Rattle.model.specs.Lookups.{isRegistered, isPost, isPending, userSlot, postPlace, pendingPlace, userNumbered, postNumbered, areFriends, hasRequested, isOwner, mayRead}
 use Rattle.model.proofs.SoundnessTheorems.{SoundState}
 use Rattle.model.proofs.SoundBoards.{sound-length, users-limit, posts-limit, pending-limit}
+use Rattle.access.specs.Rights.{mayReadAt}
 
 -- ---- where the records stand
 
@@ -65,10 +66,23 @@ pub place-of : (b : List ℕ) (base size x : ℕ) {n count r : ℕ} {numbers : L
 place-of b base size x e q found = found ∙ ap (λ (k : ℕ). indexOf x (recordNumbers b base size k)) e ∙ ap (indexOf x) q
 
 -- a number is there if its place is below the count
-pub place-below : {A : Type 0} (f : A → ℕ) (xs : List A) (x : ℕ) {place n : ℕ} → place ≡ indexOf x (map f xs) → n ≡ length xs
+place-below : {A : Type 0} (f : A → ℕ) (xs : List A) (x : ℕ) {place n : ℕ} → place ≡ indexOf x (map f xs) → n ≡ length xs
     → ltb place n ≡ contains x (map f xs)
 unfolding contains
 place-below f xs x e q = ap₂ ltb e (q ∙ sym (length-map xs f))
+
+module _ (s : State) {place n : ℕ} where
+  pub registered-at : (u : ℕ) → place ≡ userSlot s u → n ≡ length (s .users) → ltb place n ≡ isRegistered s u
+  unfolding isRegistered userSlot userNumbers
+  registered-at u = place-below (λ (x : User). x .number) (s .users) u
+
+  pub post-at : (m : ℕ) → place ≡ postPlace s m → n ≡ length (s .posts) → ltb place n ≡ isPost s m
+  unfolding isPost postPlace postNumbers
+  post-at m = place-below (λ (x : Post). x .number) (s .posts) m
+
+  pub pending-at : (v : ℕ) → place ≡ pendingPlace s v → n ≡ length (s .pending) → ltb place n ≡ isPending s v
+  unfolding isPending pendingPlace pendingNumbers
+  pending-at v = place-below (λ (x : Pending). x .number) (s .pending) v
 
 -- ---- a field of the record with a number
 
@@ -82,7 +96,23 @@ pub numbered-post : {A : Type 0} (s : State) (n : ℕ) (f : Post → A) {i : ℕ
 unfolding postNumbered
 numbered-post s n f e q = q ∙ ap (λ (k : ℕ). f (postAt s k)) e
 
--- a bit of a row of the user with a number
-pub numbered-bit : (s : State) (u : ℕ) (f : User → ℕ) {i row j slot : ℕ} {r : Bool} → i ≡ userSlot s u → row ≡ f (userAt s i) → j ≡ slot
-    → r ≡ hasBit row j → r ≡ hasBit (f (userNumbered s u)) slot
-numbered-bit s u f e q p t = t ∙ ap₂ hasBit (numbered-user s u f e q) p
+-- ---- rows and rights by slots, which are those of the numbers
+
+module _ (s : State) (u : ℕ) {i : ℕ} (e : i ≡ userSlot s u) where
+  module _ (v : ℕ) {j : ℕ} (q : j ≡ userSlot s v) where
+    pub friends-at : hasBit (userAt s i .friends) j ≡ areFriends s u v
+    unfolding areFriends userNumbered
+    friends-at = ap₂ (λ (x y : ℕ). hasBit (userAt s x .friends) y) e q
+
+    pub requested-at : hasBit (userAt s i .requests) j ≡ hasRequested s v u
+    unfolding hasRequested userNumbered
+    requested-at = ap₂ (λ (x y : ℕ). hasBit (userAt s x .requests) y) e q
+
+  module _ (n : ℕ) {place : ℕ} (q : place ≡ postPlace s n) where
+    pub owner-at : eqb (postAt s place .owner) i ≡ isOwner s u n
+    unfolding isOwner postNumbered
+    owner-at = ap₂ (λ (x y : ℕ). eqb (postAt s y .owner) x) e q
+
+    pub reader-at : mayReadAt s i place ≡ mayRead s u n
+    unfolding mayRead isOwner userNumbered postNumbered
+    reader-at = ap₂ (mayReadAt s) e q

@@ -1,9 +1,11 @@
 -- How rows decide: the number that rows give, row by row and behind others, and what a function returns that tests them in their order.
-use Prim.Native.Nat.{ℕ}
+use Prim.Native.Nat.{ℕ, _≤_, _<_}
 use mathlib.Core.Path.{_≡_, refl, sym, ap, _∙_}
 use mathlib.Core.List.{List, [], _∷_, _++_}
 use mathlib.Core.Bool.{Bool, true, false, not, cond}
 use mathlib.Core.Option.{Option, some, none}
+use lib.Dec.{ltb}
+use borrow.Author.Tests.{lt-ltb, le-ltb}
 use Rattle.model.specs.State.{State}
 use Rattle.model.specs.Actions.{Cause}
 use Rattle.model.specs.Refusals.{causeNumber, RefusalRow, firstCause, numberReturned, firstNumber, Right, rightOf, lacksRight, afterLogin, userRows}
@@ -58,6 +60,14 @@ module _ (cause : Cause) (rows : List RefusalRow) {r t : Bool} (e : r ≡ t) whe
 
   pub test-passes : not r ≡ false → {n : ℕ} → n ≡ firstNumber rows → n ≡ firstNumber ((cause, not t) ∷ rows)
   test-passes f g = g ∙ sym (row-passes cause rows (ap not (sym e) ∙ f))
+
+-- i is the place that was found for what the row misses, n the count of its table
+module _ (cause : Cause) (rows : List RefusalRow) {i n : ℕ} {t : Bool} (e : ltb i n ≡ t) where
+  pub missing-refuses : n ≤ i → causeNumber cause ≡ firstNumber ((cause, not t) ∷ rows)
+  missing-refuses h = test-refuses cause rows e (ap not (le-ltb i n h))
+
+  pub found-passes : i < n → {k : ℕ} → k ≡ firstNumber rows → k ≡ firstNumber ((cause, not t) ∷ rows)
+  found-passes h = test-passes cause rows e (ap not (lt-ltb i n h))
 
 pub none-refuse : 0 ≡ firstNumber []
 unfolding firstNumber firstCause

@@ -1,9 +1,12 @@
 // What a sound board says of a staff number and of a post number.
 ghost use mathlib.Core.Path.{_≡_};
-ghost use Rattle.model.specs.State.{isAdmin};
+ghost use lib.Dec.{eqb};
+ghost use Rattle.layout.specs.Bits.{hasBit};
+ghost use Rattle.model.specs.State.{isAdmin, userAt, postAt};
 ghost use Rattle.model.specs.Board.{decode};
-ghost use Rattle.model.specs.Lookups.{isRegistered, isPost, isPending, userSlot, postPlace, pendingPlace, areFriends, hasRequested, isOwner, mayRead};
+ghost use Rattle.model.specs.Lookups.{isRegistered, isPost, isPending, userSlot, postPlace, pendingPlace};
 ghost use Rattle.model.proofs.SoundnessTheorems.{SoundState};
+ghost use Rattle.access.specs.Rights.{mayReadAt};
 use crate::records::pending_count;
 use crate::records::post_count;
 use crate::records::post_owner;
@@ -75,38 +78,41 @@ pub fn is_admin(b: &[u8], u: u32) -> bool
     user_number(b, 0) == u
 }
 
-pub fn are_friends(b: &[u8], u: u32, v: u32) -> bool
+// The rows and rights of users and posts, by the slots and places where they were found.
+
+// Whether slot j is a friend of slot i.
+pub fn are_friends(b: &[u8], i: usize, j: usize) -> bool
     requires { ⌜ SoundState (now b) ⌝ }
-    ensures { λ r. ⌜ r ≡ areFriends (decode (now (b .entry))) u v ⌝ }
+    ensures { λ r. ⌜ r ≡ hasBit (userAt (decode (now (b .entry))) i .friends) j ⌝ }
 {
-    has_bit(user_friends(b, user_slot(b, u)), user_slot(b, v))
+    has_bit(user_friends(b, i), j)
 }
 
-// Whether v has requested u.
-pub fn has_requested(b: &[u8], v: u32, u: u32) -> bool
+// Whether slot j has requested slot i.
+pub fn has_requested(b: &[u8], i: usize, j: usize) -> bool
     requires { ⌜ SoundState (now b) ⌝ }
-    ensures { λ r. ⌜ r ≡ hasRequested (decode (now (b .entry))) v u ⌝ }
+    ensures { λ r. ⌜ r ≡ hasBit (userAt (decode (now (b .entry))) i .requests) j ⌝ }
 {
-    has_bit(user_requests(b, user_slot(b, u)), user_slot(b, v))
+    has_bit(user_requests(b, i), j)
 }
 
-pub(crate) fn is_owner(b: &[u8], u: u32, n: u32) -> bool
+// Whether slot i owns the post at a place.
+pub(crate) fn is_owner(b: &[u8], i: usize, place: usize) -> bool
     requires { ⌜ SoundState (now b) ⌝ }
-    ensures { λ r. ⌜ r ≡ isOwner (decode (now (b .entry))) u n ⌝ }
+    ensures { λ r. ⌜ r ≡ eqb (postAt (decode (now (b .entry))) place .owner) i ⌝ }
 {
-    post_owner(b, post_place(b, n)) == user_slot(b, u)
+    post_owner(b, place) == i
 }
 
 // "for the owner, the owner's friends and, if the post is public, every registered user"
-pub(crate) fn may_read(b: &[u8], u: u32, n: u32) -> bool
+pub(crate) fn may_read(b: &[u8], i: usize, place: usize) -> bool
     requires { ⌜ SoundState (now b) ⌝ }
-    ensures { λ r. ⌜ r ≡ mayRead (decode (now (b .entry))) u n ⌝ }
+    ensures { λ r. ⌜ r ≡ mayReadAt (decode (now (b .entry))) i place ⌝ }
 {
-    if is_owner(b, u, n) {
+    if is_owner(b, i, place) {
         return true;
     }
-    let place = post_place(b, n);
-    if has_bit(user_friends(b, user_slot(b, u)), post_owner(b, place)) {
+    if are_friends(b, i, post_owner(b, place)) {
         return true;
     }
     post_visibility(b, place) == 1

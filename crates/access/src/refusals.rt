@@ -1,21 +1,23 @@
 // The rows 7 to 10 of the table of refusals that several kinds share: the number of the first that applies, 0 where none does.
 ghost use mathlib.Core.Path.{_≡_};
-ghost use mathlib.Core.Bool.{cond, _||_};
+ghost use mathlib.Core.Bool.{true, cond, _||_};
 ghost use mathlib.Core.List.{[]};
 ghost use lib.Dec.{eqb};
+ghost use Rattle.layout.specs.Bits.{hasBit};
+ghost use Rattle.model.specs.State.{userAt};
 ghost use Rattle.model.specs.Board.{decode};
-ghost use Rattle.model.specs.Lookups.{areFriends};
+ghost use Rattle.model.specs.Lookups.{userSlot, postPlace, pendingPlace};
 ghost use Rattle.model.specs.Refusals.{firstNumber, rightOf, lacksRight, afterLogin, postRows, userRows, pendingRows};
 ghost use Rattle.model.proofs.SoundnessTheorems.{SoundState};
-ghost use Rattle.access.specs.Rights.{enumRight};
+ghost use Rattle.access.specs.Rights.{enumRight, StandsAt, isPostKind, isPendingKind};
 use crate::lookups::are_friends;
 use crate::lookups::is_admin;
 use crate::lookups::is_owner;
-use crate::lookups::is_pending;
-use crate::lookups::is_post;
-use crate::lookups::is_registered;
 use crate::lookups::may_read;
 use crate::lookups::user_slot;
+use crate::records::pending_count;
+use crate::records::post_count;
+use crate::records::user_count;
 use crate::records::user_password;
 use reader::Login;
 
@@ -43,15 +45,15 @@ pub fn right_of(kind: u16) -> Right
     }
 }
 
-// "0606 .. V, where V is U or a friend of U"
-fn may_list(b: &[u8], u: u32, v: u32) -> bool
+// "0606 .. V, where V is U or a friend of U", by numbers and slots
+fn may_list(b: &[u8], u: u32, v: u32, i: usize, j: usize) -> bool
     requires { ⌜ SoundState (now b) ⌝ }
-    ensures { λ r. ⌜ r ≡ (eqb u v || areFriends (decode (now (b .entry))) u v) ⌝ }
+    ensures { λ r. ⌜ r ≡ (eqb u v || hasBit (userAt (decode (now (b .entry))) i .friends) j) ⌝ }
 {
     if u == v {
         return true;
     }
-    are_friends(b, u, v)
+    are_friends(b, i, j)
 }
 
 // 0 for a sender who is entitled, else the number.
@@ -64,81 +66,84 @@ fn unless(entitled: bool, number: u16) -> u16
     number
 }
 
-// The refusal of u without the right to x, a post or another user; the admin's right does not look at x.
-pub fn right_refusal(b: &[u8], right: Right, u: u32, x: u32) -> u16
-    requires { ⌜ SoundState (now b) ⌝ }
+// The refusal of u, in slot i, without the right to x, a post or another user, at place k.
+pub fn right_refusal(b: &[u8], right: Right, u: u32, x: u32, i: usize, k: usize) -> u16
+    requires { ⌜ SoundState (now b) × (i ≡ userSlot (decode (now b)) u) × StandsAt (enumRight right) (decode (now b)) x k ⌝ }
     ensures { λ r. ⌜ r ≡ firstNumber (lacksRight (decode (now (b .entry))) (enumRight right) u x) ⌝ }
 {
     match right {
         Right::Admin => unless(is_admin(b, u), 8),
-        Right::Owner => unless(is_owner(b, u, x), 10),
-        Right::Reader => unless(may_read(b, u, x), 10),
-        Right::Friend => unless(may_list(b, u, x), 10),
+        Right::Owner => unless(is_owner(b, i, k), 10),
+        Right::Reader => unless(may_read(b, i, k), 10),
+        Right::Friend => unless(may_list(b, u, x, i, k), 10),
         Right::Unrestricted => 0,
     }
 }
 
-// "U not registered or P wrong"
-pub fn login_refusal(b: &[u8], login: Login) -> u16
-    requires { ⌜ SoundState (now b) ⌝ }
+// "U not registered or P wrong", where U is in slot i.
+pub fn login_refusal(b: &[u8], login: Login, i: usize) -> u16
+    requires { ⌜ SoundState (now b) × (i ≡ userSlot (decode (now b)) (login .user)) ⌝ }
     ensures { λ r. ⌜ r ≡ firstNumber (afterLogin (decode (now (b .entry))) (login .user) (login .password) []) ⌝ }
 {
-    let u = login.user;
-    if !is_registered(b, u) {
+    if user_count(b) <= i {
         return 7;
     }
-    if user_password(b, user_slot(b, u)) != login.password {
+    if user_password(b, i) != login.password {
         return 7;
     }
     0
 }
 
-// Kinds with a post (0402 to 0405, 0504 to 0508).
-pub fn post_refusal(b: &[u8], kind: u16, login: Login, n: u32) -> u16
-    requires { ⌜ SoundState (now b) ⌝ }
+// Kinds with a post (0402 to 0405, 0504 to 0508), which is at a place.
+pub fn post_refusal(b: &[u8], kind: u16, login: Login, n: u32, place: usize) -> u16
+    requires { ⌜ SoundState (now b) × (place ≡ postPlace (decode (now b)) n) × (isPostKind kind ≡ true) ⌝ }
     ensures { λ r. ⌜ r ≡ firstNumber (postRows (decode (now (b .entry))) kind (login .user) (login .password) n) ⌝ }
 {
     let u = login.user;
-    let number = login_refusal(b, login);
+    let i = user_slot(b, u);
+    let number = login_refusal(b, login, i);
     if number != 0 {
         return number;
     }
-    if !is_post(b, n) {
+    if post_count(b) <= place {
         return 9;
     }
-    right_refusal(b, right_of(kind), u, n)
+    right_refusal(b, right_of(kind), u, n, i, place)
 }
 
 // Kinds with another user (0204, 0205, 0301, 0501, 0509, 050A, 0606), up to "V not registered"; their functions test the rows behind it.
-pub fn user_refusal(b: &[u8], login: Login, v: u32) -> u16
-    requires { ⌜ SoundState (now b) ⌝ }
+// U is in slot i, V in slot j.
+pub fn user_refusal(b: &[u8], login: Login, v: u32, i: usize, j: usize) -> u16
+    requires { ⌜ SoundState (now b) × (i ≡ userSlot (decode (now b)) (login .user)) × (j ≡ userSlot (decode (now b)) v) ⌝ }
     ensures { λ r. ⌜ r ≡ firstNumber (userRows (decode (now (b .entry))) (login .user) (login .password) v []) ⌝ }
 {
-    let number = login_refusal(b, login);
+    let number = login_refusal(b, login, i);
     if number != 0 {
         return number;
     }
-    if !is_registered(b, v) {
+    if user_count(b) <= j {
         return 9;
     }
     0
 }
 
-// Kinds for the admin with a pending registration (0202, 0502), up to "not pending"; their functions test the rows behind it.
-pub fn pending_refusal(b: &[u8], kind: u16, login: Login, v: u32) -> u16
-    requires { ⌜ SoundState (now b) ⌝ }
+// Kinds for the admin with a pending registration (0202, 0502), which is at a place, up to "not pending"; their functions test the rows
+// behind it.
+pub fn pending_refusal(b: &[u8], kind: u16, login: Login, v: u32, place: usize) -> u16
+    requires { ⌜ SoundState (now b) × (place ≡ pendingPlace (decode (now b)) v) × (isPendingKind kind ≡ true) ⌝ }
     ensures { λ r. ⌜ r ≡ firstNumber (pendingRows (decode (now (b .entry))) kind (login .user) (login .password) v []) ⌝ }
 {
     let u = login.user;
-    let login_number = login_refusal(b, login);
+    let i = user_slot(b, u);
+    let login_number = login_refusal(b, login, i);
     if 0 < login_number {
         return login_number;
     }
-    let right_number = right_refusal(b, right_of(kind), u, v);
+    let right_number = right_refusal(b, right_of(kind), u, v, i, place);
     if right_number != 0 {
         return right_number;
     }
-    if !is_pending(b, v) {
+    if pending_count(b) <= place {
         return 9;
     }
     0

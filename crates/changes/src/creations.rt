@@ -125,7 +125,8 @@ pub fn register_user(board: &mut [u8], login: Login, v: u32, password: u64) -> u
     requires { ⌜ SoundState (now board) ⌝ }
     ensures { λ r. ⌜ changed r (now (board .exit)) ≡ changeResult (now (board .entry)) (cUser (login .user) (login .password) v password) ⌝ }
 {
-    let number = pending_refusal(board, 0x0202, login, v);
+    let i = pending_place(board, v);
+    let number = pending_refusal(board, 0x0202, login, v, i);
     if number != 0 {
         return number;
     }
@@ -134,7 +135,6 @@ pub fn register_user(board: &mut [u8], login: Login, v: u32, password: u64) -> u
         return 12;
     }
     let k = pending_count(board);
-    let i = pending_place(board, v);
     remove_record(board, PENDING, PENDING_SIZE, k, i);
     write_u16(board, HEADER_PENDING, (k - 1) as u16);
     add_user(board, n, v, password);
@@ -146,8 +146,8 @@ pub fn create_post(board: &mut [u8], login: Login, n: u32, title: &[u8]) -> u16
     requires { ⌜ SoundState (now board) × (isString titleLimit (now title) ≡ true) ⌝ }
     ensures { λ r. ⌜ changed r (now (board .exit)) ≡ changeResult (now (board .entry)) (cPost (login .user) (login .password) n (now (title .entry))) ⌝ }
 {
-    let u = login.user;
-    let number = login_refusal(board, login);
+    let owner = user_slot(board, login.user);
+    let number = login_refusal(board, login, owner);
     if number != 0 {
         return number;
     }
@@ -158,7 +158,6 @@ pub fn create_post(board: &mut [u8], login: Login, n: u32, title: &[u8]) -> u16
     if POST_LIMIT <= m {
         return 12;
     }
-    let owner = user_slot(board, u);
     add_post(board, m, n, owner, title);
     0
 }
@@ -169,23 +168,23 @@ pub fn request_friend(board: &mut [u8], login: Login, v: u32, note: &[u8]) -> u1
     ensures { λ r. ⌜ changed r (now (board .exit)) ≡ changeResult (now (board .entry)) (cFriendReq (login .user) (login .password) v (now (note .entry))) ⌝ }
 {
     let u = login.user;
-    let number = user_refusal(board, login, v);
+    let i = user_slot(board, u);
+    let j = user_slot(board, v);
+    let number = user_refusal(board, login, v, i, j);
     if number != 0 {
         return number;
     }
     if u == v {
         return 11;
     }
-    if are_friends(board, u, v) {
+    if are_friends(board, i, j) {
         return 11;
     }
-    if has_requested(board, u, v) {
+    if has_requested(board, j, i) {
         return 11;
     }
-    let i = user_slot(board, v);
-    let j = user_slot(board, u);
-    set_row_bit(board, requests_at(i), j);
-    write_string(board, note_at(i, j), NOTE_LIMIT, note);
+    set_row_bit(board, requests_at(j), i);
+    write_string(board, note_at(j, i), NOTE_LIMIT, note);
     0
 }
 
@@ -194,19 +193,18 @@ pub fn accept_request(board: &mut [u8], login: Login, v: u32) -> u16
     requires { ⌜ SoundState (now board) ⌝ }
     ensures { λ r. ⌜ changed r (now (board .exit)) ≡ changeResult (now (board .entry)) (cFriend (login .user) (login .password) v) ⌝ }
 {
-    let u = login.user;
-    let number = user_refusal(board, login, v);
+    let i = user_slot(board, login.user);
+    let j = user_slot(board, v);
+    let number = user_refusal(board, login, v, i, j);
     if number != 0 {
         return number;
     }
-    if !has_requested(board, v, u) {
+    if !has_requested(board, i, j) {
         return 9;
     }
-    if are_friends(board, u, v) {
+    if are_friends(board, i, j) {
         return 11;
     }
-    let i = user_slot(board, u);
-    let j = user_slot(board, v);
     remove_request(board, i, j);
     set_row_bit(board, friends_at(i), j);
     set_row_bit(board, friends_at(j), i);

@@ -15,16 +15,15 @@ pub fn end_friendship(board: &mut [u8], login: Login, v: u32) -> u16
     requires { ⌜ SoundState (now board) ⌝ }
     ensures { λ r. ⌜ changed r (now (board .exit)) ≡ changeResult (now (board .entry)) (dFriend (login .user) (login .password) v) ⌝ }
 {
-    let u = login.user;
-    let number = user_refusal(board, login, v);
+    let i = user_slot(board, login.user);
+    let j = user_slot(board, v);
+    let number = user_refusal(board, login, v, i, j);
     if number != 0 {
         return number;
     }
-    if !are_friends(board, u, v) {
+    if !are_friends(board, i, j) {
         return 9;
     }
-    let i = user_slot(board, u);
-    let j = user_slot(board, v);
     clear_row_bit(board, friends_at(i), j);
     clear_row_bit(board, friends_at(j), i);
     0

@@ -37,12 +37,12 @@ pub fn update_user(board: &mut [u8], login: Login, password: u64, name: &[u8], i
     requires { ⌜ SoundState (now board) × (isString nameLimit (now name) ≡ true) × (isString infoLimit (now info) ≡ true) ⌝ }
     ensures { λ r. ⌜ changed r (now (board .exit)) ≡ changeResult (now (board .entry)) (uUser (login .user) (login .password) password (now (name .entry)) (now (info .entry))) ⌝ }
 {
-    let u = login.user;
-    let number = login_refusal(board, login);
+    let i = user_slot(board, login.user);
+    let number = login_refusal(board, login, i);
     if number != 0 {
         return number;
     }
-    let at = USERS + user_slot(board, u) * USER_SIZE;
+    let at = USERS + i * USER_SIZE;
     write_u64(board, at + USER_PASSWORD, password);
     write_string(board, at + USER_NAME, NAME_LIMIT, name);
     write_string(board, at + USER_INFO, INFO_LIMIT, info);
@@ -54,11 +54,12 @@ pub fn update_title(board: &mut [u8], login: Login, n: u32, title: &[u8]) -> u16
     requires { ⌜ SoundState (now board) × (isString titleLimit (now title) ≡ true) ⌝ }
     ensures { λ r. ⌜ changed r (now (board .exit)) ≡ changeResult (now (board .entry)) (uTitlePost (login .user) (login .password) n (now (title .entry))) ⌝ }
 {
-    let number = post_refusal(board, 0x0402, login, n);
+    let place = post_place(board, n);
+    let number = post_refusal(board, 0x0402, login, n, place);
     if number != 0 {
         return number;
     }
-    let at = POSTS + post_place(board, n) * POST_SIZE;
+    let at = POSTS + place * POST_SIZE;
     write_string(board, at + POST_TITLE, TITLE_LIMIT, title);
     0
 }
@@ -68,11 +69,12 @@ pub fn update_text(board: &mut [u8], login: Login, n: u32, text: &[u8]) -> u16
     requires { ⌜ SoundState (now board) × (isString textLimit (now text) ≡ true) ⌝ }
     ensures { λ r. ⌜ changed r (now (board .exit)) ≡ changeResult (now (board .entry)) (uTextPost (login .user) (login .password) n (now (text .entry))) ⌝ }
 {
-    let number = post_refusal(board, 0x0403, login, n);
+    let place = post_place(board, n);
+    let number = post_refusal(board, 0x0403, login, n, place);
     if number != 0 {
         return number;
     }
-    let at = POSTS + post_place(board, n) * POST_SIZE;
+    let at = POSTS + place * POST_SIZE;
     write_string(board, at + POST_TEXT, TEXT_LIMIT, text);
     0
 }
@@ -82,11 +84,12 @@ pub fn update_picture(board: &mut [u8], login: Login, n: u32, picture: u32) -> u
     requires { ⌜ SoundState (now board) ⌝ }
     ensures { λ r. ⌜ changed r (now (board .exit)) ≡ changeResult (now (board .entry)) (uImgPost (login .user) (login .password) n picture) ⌝ }
 {
-    let number = post_refusal(board, 0x0404, login, n);
+    let place = post_place(board, n);
+    let number = post_refusal(board, 0x0404, login, n, place);
     if number != 0 {
         return number;
     }
-    let at = POSTS + post_place(board, n) * POST_SIZE;
+    let at = POSTS + place * POST_SIZE;
     write_u32(board, at + POST_PICTURE, picture);
     0
 }
@@ -96,11 +99,12 @@ pub fn update_visibility(board: &mut [u8], login: Login, n: u32, visibility: u8)
     requires { ⌜ SoundState (now board) × (visibility ≤ 1) ⌝ }
     ensures { λ r. ⌜ changed r (now (board .exit)) ≡ changeResult (now (board .entry)) (uVisPost (login .user) (login .password) n visibility) ⌝ }
 {
-    let number = post_refusal(board, 0x0405, login, n);
+    let place = post_place(board, n);
+    let number = post_refusal(board, 0x0405, login, n, place);
     if number != 0 {
         return number;
     }
-    let at = POSTS + post_place(board, n) * POST_SIZE;
+    let at = POSTS + place * POST_SIZE;
     write_u16(board, at + POST_VISIBILITY, visibility as u16);
     0
 }

@@ -1,7 +1,7 @@
 -- The strings on a sound board: each stands in its field, as a function that copies it asks, and is the string of the state.
 use Prim.Native.Nat.{ℕ, _+_, _*_, _≤_, _<_}
 use native.Mathlib.Omega.{arith}
-use mathlib.Core.Path.{_≡_, refl, sym, ap₂, _∙_, subst}
+use mathlib.Core.Path.{_≡_, refl, ap, _∙_}
 use mathlib.Core.List.{List}
 use mathlib.Core.Bool.{true}
 use lib.ListN.{length, getD}
@@ -16,7 +16,6 @@ use Rattle.reader.specs.Fields.{numberIn, nameLimit, infoLimit, titleLimit, tex
 use Rattle.model.specs.Lists.{forAll}
 use Rattle.model.specs.State.{userLimit, userAt, postAt, pendingAt, noteAt}
 use Rattle.model.specs.Board.{StoredField, string, filler, userFields, postFields, pendingFields, noteFields, decode}
-use Rattle.model.specs.Lookups.{userSlot, noteOfRequest}
 use Rattle.model.proofs.StateRules.{storedFits}
 use Rattle.model.proofs.StoredValues.{string-short, user-fits, post-fits, pending-fits, note-fits}
 use Rattle.model.proofs.ReadingLaws.{read-user-name-field, read-user-info-field, read-post-title-field, read-post-text-field, read-pending-note-field, read-note-to}
@@ -83,19 +82,11 @@ module _ {b : List ℕ} (w : SoundState b) where
       string-held b (23312 + i * 32 + 4) (pendingFields (pendingAt (decode b) i)) 1 noteLimit (pendingAt (decode b) i .note)
       (pending-fits (decode b) (w .encoded .fits) i) (lit< tt) refl (lit< tt) (read-pending-note-field (w .encoded) i h)
 
-  -- the note to slot i from slot j
-  note-held : {i j : ℕ} → i < userLimit → j < userLimit
-      → StringHeld b (23824 + (userLimit * i + j) * 26) noteLimit (noteAt (decode b) i j)
+  -- the note to slot i from slot j, at its place
+  pub note-held : {i j at : ℕ} → i < userLimit → j < userLimit → at ≡ 23824 + (userLimit * i + j) * 26
+      → StringHeld b at noteLimit (noteAt (decode b) i j)
   unfolding noteFields
-  note-held {i = i} {j = j} h l =
-      string-held b (23824 + (userLimit * i + j) * 26) (noteFields (noteAt (decode b) i j)) 0 noteLimit (noteAt (decode b) i j)
-      (note-fits (decode b) (w .encoded .fits) i j) (lit< tt) refl (lit< tt) (read-note-to (w .encoded) i j h l)
-
-  -- the note of y's request to x, at the place for their slots
-  pub request-note-held : (x y : ℕ) {i j at : ℕ} → i ≡ userSlot (decode b) x → j ≡ userSlot (decode b) y → i < userLimit → j < userLimit
-      → at ≡ 23824 + (userLimit * i + j) * 26 → StringHeld b at noteLimit (noteOfRequest (decode b) y x)
-  unfolding noteOfRequest
-  request-note-held x y e f h l q =
-      let note : List ℕ = noteAt (decode b) (userSlot (decode b) x) (userSlot (decode b) y) in
-      subst (λ (k : ℕ). StringHeld b k noteLimit note) (sym (q ∙ ap₂ (λ (k m : ℕ). 23824 + (userLimit * k + m) * 26) e f))
-      (note-held (omega arith) (omega arith))
+  note-held {i = i} {j = j} {at = at} h l q =
+      string-held b at (noteFields (noteAt (decode b) i j)) 0 noteLimit (noteAt (decode b) i j)
+      (note-fits (decode b) (w .encoded .fits) i j) (lit< tt) refl (lit< tt)
+      (ap (λ (k : ℕ). bytesAt b k (2 + noteLimit)) q ∙ read-note-to (w .encoded) i j h l)

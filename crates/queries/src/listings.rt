@@ -32,11 +32,12 @@ pub fn list_pending(b: &[u8], login: Login, out: &mut [u8]) -> Reply
     ensures { λ r. ⌜ replied r (now (out .exit)) ≡ queryResult (now (b .entry)) (lPendingUReqs (login .user) (login .password)) (now (out .entry)) ⌝ }
 {
     let u = login.user;
-    let number = login_refusal(b, login);
+    let i = user_slot(b, u);
+    let number = login_refusal(b, login, i);
     if number != 0 {
         return without_body(number);
     }
-    let right_number = right_refusal(b, right_of(0x0601), u, 0);
+    let right_number = right_refusal(b, right_of(0x0601), u, 0, i, 0);
     if right_number != 0 {
         return without_body(right_number);
     }
@@ -50,7 +51,7 @@ pub fn list_users(b: &[u8], login: Login, out: &mut [u8]) -> Reply
     requires { ⌜ SoundState (now b) × (answerLimit ≤ length (now out)) ⌝ }
     ensures { λ r. ⌜ replied r (now (out .exit)) ≡ queryResult (now (b .entry)) (lAllUsers (login .user) (login .password)) (now (out .entry)) ⌝ }
 {
-    let number = login_refusal(b, login);
+    let number = login_refusal(b, login, user_slot(b, login.user));
     if number != 0 {
         return without_body(number);
     }
@@ -64,7 +65,7 @@ pub fn list_posts(b: &[u8], login: Login, out: &mut [u8]) -> Reply
     requires { ⌜ SoundState (now b) × (answerLimit ≤ length (now out)) ⌝ }
     ensures { λ r. ⌜ replied r (now (out .exit)) ≡ queryResult (now (b .entry)) (lAllPosts (login .user) (login .password)) (now (out .entry)) ⌝ }
 {
-    let number = login_refusal(b, login);
+    let number = login_refusal(b, login, user_slot(b, login.user));
     if number != 0 {
         return without_body(number);
     }
@@ -77,12 +78,12 @@ pub fn list_requests(b: &[u8], login: Login, out: &mut [u8]) -> Reply
     requires { ⌜ SoundState (now b) × (answerLimit ≤ length (now out)) ⌝ }
     ensures { λ r. ⌜ replied r (now (out .exit)) ≡ queryResult (now (b .entry)) (lFriendReqs (login .user) (login .password)) (now (out .entry)) ⌝ }
 {
-    let u = login.user;
-    let number = login_refusal(b, login);
+    let i = user_slot(b, login.user);
+    let number = login_refusal(b, login, i);
     if number != 0 {
         return without_body(number);
     }
-    let row = user_requests(b, user_slot(b, u));
+    let row = user_requests(b, i);
     let len = write_staff_list(b, USERS, USER_SIZE, row, out);
     Reply { number: 0, len }
 }
@@ -92,12 +93,12 @@ pub fn list_friends(b: &[u8], login: Login, out: &mut [u8]) -> Reply
     requires { ⌜ SoundState (now b) × (answerLimit ≤ length (now out)) ⌝ }
     ensures { λ r. ⌜ replied r (now (out .exit)) ≡ queryResult (now (b .entry)) (lFriends (login .user) (login .password)) (now (out .entry)) ⌝ }
 {
-    let u = login.user;
-    let number = login_refusal(b, login);
+    let i = user_slot(b, login.user);
+    let number = login_refusal(b, login, i);
     if number != 0 {
         return without_body(number);
     }
-    let row = user_friends(b, user_slot(b, u));
+    let row = user_friends(b, i);
     let len = write_staff_list(b, USERS, USER_SIZE, row, out);
     Reply { number: 0, len }
 }
@@ -108,15 +109,17 @@ pub fn list_friends_of(b: &[u8], login: Login, v: u32, out: &mut [u8]) -> Reply
     ensures { λ r. ⌜ replied r (now (out .exit)) ≡ queryResult (now (b .entry)) (lFriendsOf (login .user) (login .password) v) (now (out .entry)) ⌝ }
 {
     let u = login.user;
-    let number = user_refusal(b, login, v);
+    let i = user_slot(b, u);
+    let j = user_slot(b, v);
+    let number = user_refusal(b, login, v, i, j);
     if number != 0 {
         return without_body(number);
     }
-    let right_number = right_refusal(b, right_of(0x0606), u, v);
+    let right_number = right_refusal(b, right_of(0x0606), u, v, i, j);
     if right_number != 0 {
         return without_body(right_number);
     }
-    let row = user_friends(b, user_slot(b, v));
+    let row = user_friends(b, j);
     let len = write_staff_list(b, USERS, USER_SIZE, row, out);
     Reply { number: 0, len }
 }

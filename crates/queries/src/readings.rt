@@ -1,12 +1,13 @@
 // Actions that read: 0501 to 050A.
 ghost use mathlib.Core.Path.{_≡_};
-ghost use mathlib.Core.Bool.{true, not};
+ghost use mathlib.Core.Bool.{not};
 ghost use mathlib.Core.List.{[], _∷_};
-ghost use Prim.Native.Nat.{_≤_};
+ghost use Prim.Native.Nat.{_≤_, _<_};
 ghost use lib.ListN.{length};
+ghost use Rattle.layout.specs.Bits.{hasBit};
 ghost use Rattle.layout.specs.StringFields.{stringBytes};
+ghost use Rattle.model.specs.State.{userLimit, userAt, noteAt};
 ghost use Rattle.model.specs.Board.{decode};
-ghost use Rattle.model.specs.Lookups.{isRegistered, hasRequested, noteOfRequest};
 ghost use Rattle.model.specs.Actions.{requestMissing};
 ghost use Rattle.model.specs.Actions.{rUser, rNUReq, rAmIAdmin, rTitlePost, rTextPost, rImgPost, rVisPost, rOwnerPost, rFriendReqToMe, rFriendReqFromMe};
 ghost use Rattle.model.specs.Step.{answerLimit};
@@ -50,11 +51,13 @@ pub fn read_user(b: &[u8], login: Login, v: u32, out: &mut [u8]) -> Reply
     requires { ⌜ SoundState (now b) × (answerLimit ≤ length (now out)) ⌝ }
     ensures { λ r. ⌜ replied r (now (out .exit)) ≡ queryResult (now (b .entry)) (rUser (login .user) (login .password) v) (now (out .entry)) ⌝ }
 {
-    let number = user_refusal(b, login, v);
+    let i = user_slot(b, login.user);
+    let j = user_slot(b, v);
+    let number = user_refusal(b, login, v, i, j);
     if number != 0 {
         return without_body(number);
     }
-    let at = USERS + user_slot(b, v) * USER_SIZE;
+    let at = USERS + j * USER_SIZE;
     let name_len = copy_string(b, at + USER_NAME, out, HEAD_SIZE);
     let info_len = copy_string(b, at + USER_INFO, out, HEAD_SIZE + name_len);
     Reply {
@@ -68,11 +71,12 @@ pub fn read_pending(b: &[u8], login: Login, v: u32, out: &mut [u8]) -> Reply
     requires { ⌜ SoundState (now b) × (answerLimit ≤ length (now out)) ⌝ }
     ensures { λ r. ⌜ replied r (now (out .exit)) ≡ queryResult (now (b .entry)) (rNUReq (login .user) (login .password) v) (now (out .entry)) ⌝ }
 {
-    let number = pending_refusal(b, 0x0502, login, v);
+    let place = pending_place(b, v);
+    let number = pending_refusal(b, 0x0502, login, v, place);
     if number != 0 {
         return without_body(number);
     }
-    let at = PENDING + pending_place(b, v) * PENDING_SIZE + PENDING_NOTE;
+    let at = PENDING + place * PENDING_SIZE + PENDING_NOTE;
     let len = copy_string(b, at, out, HEAD_SIZE);
     Reply { number: 0, len }
 }
@@ -83,7 +87,7 @@ pub fn read_admin(b: &[u8], login: Login, out: &mut [u8]) -> Reply
     ensures { λ r. ⌜ replied r (now (out .exit)) ≡ queryResult (now (b .entry)) (rAmIAdmin (login .user) (login .password)) (now (out .entry)) ⌝ }
 {
     let u = login.user;
-    let number = login_refusal(b, login);
+    let number = login_refusal(b, login, user_slot(b, u));
     if number != 0 {
         return without_body(number);
     }
@@ -100,11 +104,12 @@ pub fn read_title(b: &[u8], login: Login, n: u32, out: &mut [u8]) -> Reply
     requires { ⌜ SoundState (now b) × (answerLimit ≤ length (now out)) ⌝ }
     ensures { λ r. ⌜ replied r (now (out .exit)) ≡ queryResult (now (b .entry)) (rTitlePost (login .user) (login .password) n) (now (out .entry)) ⌝ }
 {
-    let number = post_refusal(b, 0x0504, login, n);
+    let place = post_place(b, n);
+    let number = post_refusal(b, 0x0504, login, n, place);
     if number != 0 {
         return without_body(number);
     }
-    let at = POSTS + post_place(b, n) * POST_SIZE + POST_TITLE;
+    let at = POSTS + place * POST_SIZE + POST_TITLE;
     let len = copy_string(b, at, out, HEAD_SIZE);
     Reply { number: 0, len }
 }
@@ -114,11 +119,12 @@ pub fn read_text(b: &[u8], login: Login, n: u32, out: &mut [u8]) -> Reply
     requires { ⌜ SoundState (now b) × (answerLimit ≤ length (now out)) ⌝ }
     ensures { λ r. ⌜ replied r (now (out .exit)) ≡ queryResult (now (b .entry)) (rTextPost (login .user) (login .password) n) (now (out .entry)) ⌝ }
 {
-    let number = post_refusal(b, 0x0505, login, n);
+    let place = post_place(b, n);
+    let number = post_refusal(b, 0x0505, login, n, place);
     if number != 0 {
         return without_body(number);
     }
-    let at = POSTS + post_place(b, n) * POST_SIZE + POST_TEXT;
+    let at = POSTS + place * POST_SIZE + POST_TEXT;
     let len = copy_string(b, at, out, HEAD_SIZE);
     Reply { number: 0, len }
 }
@@ -128,11 +134,12 @@ pub fn read_picture(b: &[u8], login: Login, n: u32, out: &mut [u8]) -> Reply
     requires { ⌜ SoundState (now b) × (answerLimit ≤ length (now out)) ⌝ }
     ensures { λ r. ⌜ replied r (now (out .exit)) ≡ queryResult (now (b .entry)) (rImgPost (login .user) (login .password) n) (now (out .entry)) ⌝ }
 {
-    let number = post_refusal(b, 0x0506, login, n);
+    let place = post_place(b, n);
+    let number = post_refusal(b, 0x0506, login, n, place);
     if number != 0 {
         return without_body(number);
     }
-    let len = write_number(out, post_picture(b, post_place(b, n)));
+    let len = write_number(out, post_picture(b, place));
     Reply { number: 0, len }
 }
 
@@ -141,11 +148,12 @@ pub fn read_visibility(b: &[u8], login: Login, n: u32, out: &mut [u8]) -> Reply
     requires { ⌜ SoundState (now b) × (answerLimit ≤ length (now out)) ⌝ }
     ensures { λ r. ⌜ replied r (now (out .exit)) ≡ queryResult (now (b .entry)) (rVisPost (login .user) (login .password) n) (now (out .entry)) ⌝ }
 {
-    let number = post_refusal(b, 0x0507, login, n);
+    let place = post_place(b, n);
+    let number = post_refusal(b, 0x0507, login, n, place);
     if number != 0 {
         return without_body(number);
     }
-    let visibility = post_visibility(b, post_place(b, n));
+    let visibility = post_visibility(b, place);
     // 0 or 1: nothing is cut off.
     let len = write_byte(out, (visibility % 256) as u8);
     Reply { number: 0, len }
@@ -156,25 +164,25 @@ pub fn read_owner(b: &[u8], login: Login, n: u32, out: &mut [u8]) -> Reply
     requires { ⌜ SoundState (now b) × (answerLimit ≤ length (now out)) ⌝ }
     ensures { λ r. ⌜ replied r (now (out .exit)) ≡ queryResult (now (b .entry)) (rOwnerPost (login .user) (login .password) n) (now (out .entry)) ⌝ }
 {
-    let number = post_refusal(b, 0x0508, login, n);
+    let place = post_place(b, n);
+    let number = post_refusal(b, 0x0508, login, n, place);
     if number != 0 {
         return without_body(number);
     }
-    let owner = post_owner(b, post_place(b, n));
+    let owner = post_owner(b, place);
     let len = write_number(out, user_number(b, owner));
     Reply { number: 0, len }
 }
 
-// The note of a request from one user to another, both registered, or 9 where there is none.
-fn read_request_note(b: &[u8], from: u32, to: u32, out: &mut [u8]) -> Reply
-    requires { ⌜ SoundState (now b) × (answerLimit ≤ length (now out)) × (isRegistered (decode (now b)) from ≡ true) × (isRegistered (decode (now b)) to ≡ true) ⌝ }
-    ensures { λ r. ⌜ replied r (now (out .exit)) ≡ replyTo ((requestMissing, not (hasRequested (decode (now (b .entry))) from to)) ∷ []) (stringBytes (noteOfRequest (decode (now (b .entry))) from to)) (now (out .entry)) ⌝ }
+// The note of the request to slot i from slot j, or 9 where there is none.
+fn read_request_note(b: &[u8], i: usize, j: usize, out: &mut [u8]) -> Reply
+    requires { ⌜ SoundState (now b) × (answerLimit ≤ length (now out)) × (i < userLimit) × (j < userLimit) ⌝ }
+    ensures { λ r. ⌜ replied r (now (out .exit)) ≡ replyTo ((requestMissing, not (hasBit (userAt (decode (now (b .entry))) i .requests) j)) ∷ []) (stringBytes (noteAt (decode (now (b .entry))) i j)) (now (out .entry)) ⌝ }
 {
-    if !has_requested(b, from, to) {
+    if !has_requested(b, i, j) {
         return without_body(9);
     }
-    let at = note_at(user_slot(b, to), user_slot(b, from));
-    let len = copy_string(b, at, out, HEAD_SIZE);
+    let len = copy_string(b, note_at(i, j), out, HEAD_SIZE);
     Reply { number: 0, len }
 }
 
@@ -183,12 +191,13 @@ pub fn read_request_to(b: &[u8], login: Login, v: u32, out: &mut [u8]) -> Reply
     requires { ⌜ SoundState (now b) × (answerLimit ≤ length (now out)) ⌝ }
     ensures { λ r. ⌜ replied r (now (out .exit)) ≡ queryResult (now (b .entry)) (rFriendReqToMe (login .user) (login .password) v) (now (out .entry)) ⌝ }
 {
-    let u = login.user;
-    let number = user_refusal(b, login, v);
+    let i = user_slot(b, login.user);
+    let j = user_slot(b, v);
+    let number = user_refusal(b, login, v, i, j);
     if number != 0 {
         return without_body(number);
     }
-    read_request_note(b, v, u, out)
+    read_request_note(b, i, j, out)
 }
 
 // 050A: the note of u's request to v
@@ -196,10 +205,11 @@ pub fn read_request_from(b: &[u8], login: Login, v: u32, out: &mut [u8]) -> Repl
     requires { ⌜ SoundState (now b) × (answerLimit ≤ length (now out)) ⌝ }
     ensures { λ r. ⌜ replied r (now (out .exit)) ≡ queryResult (now (b .entry)) (rFriendReqFromMe (login .user) (login .password) v) (now (out .entry)) ⌝ }
 {
-    let u = login.user;
-    let number = user_refusal(b, login, v);
+    let i = user_slot(b, login.user);
+    let j = user_slot(b, v);
+    let number = user_refusal(b, login, v, i, j);
     if number != 0 {
         return without_body(number);
     }
-    read_request_note(b, u, v, out)
+    read_request_note(b, j, i, out)
 }

@@ -1,45 +1,28 @@
 -- `right_of` meets its contract: a single kind has its right by computation, any other by the range in which it lies.
-use Prim.Native.Nat.{ℕ, _≤_, _<_}
+use Prim.Native.Nat.{ℕ, _<_}
 use native.Mathlib.Omega.{arith}
 use mathlib.Core.Path.{_≡_, refl, sym, ap}
 use mathlib.Core.Logic.{_⊎_, inl, inr}
-use mathlib.Core.Bool.{Bool, true, false, cond, _&&_}
+use mathlib.Core.Bool.{Bool, cond, _&&_}
 use lib.Dec.{leb}
-use borrow.Author.Tests.{leb-true, le-leb, ne-eqb}
 use Rattle.bytes.specs.Bytes.{indexOf, indexAfter}
-use Rattle.layout.proofs.BooleanLaws.{and-left, and-right, and-both, refuted}
 use Rattle.model.specs.Lists.{contains}
 use Rattle.model.specs.Refusals.{rightOf, ownerRight, readerRight, noRight}
+use Rattle.access.proofs.RightLaws.{within, outside, by-ranges}
 use Rattle.access.proofs.refusals.right_of.Statement.{statement}
 use Rattle.access.proofs.refusals.right_of.Tie as tie
-
-within : (lo hi k : ℕ) → lo ≤ k → k ≤ hi → (leb lo k && leb k hi) ≡ true
-within lo hi k l h = and-both (le-leb lo k l) (le-leb k hi h)
-
-outside : (lo hi k : ℕ) → (k < lo) ⊎ (hi < k) → (leb lo k && leb k hi) ≡ false
-outside lo hi k n =
-    refuted (leb lo k && leb k hi) (λ e.
-    let l = leb-true lo k (and-left (leb lo k) (leb k hi) e) in
-    let h = leb-true k hi (and-right (leb lo k) (leb k hi) e) in
-    elim n [ inl below ↦ omega arith | inr above ↦ omega arith ])
 
 abbrev kind : tie.At-match-rest → ℕ
 kind c = c .before .args .kind
 
--- a kind that is none of the single ones, by the tests of the ranges
-by-ranges : (c : tie.At-match-rest) {owner reader : Bool} → (leb 0x0402 (kind c) && leb (kind c) 0x0405) ≡ owner
+-- a kind that is none of the single ones
+ranged : (c : tie.At-match-rest) {owner reader : Bool} → (leb 0x0402 (kind c) && leb (kind c) 0x0405) ≡ owner
     → (leb 0x0504 (kind c) && leb (kind c) 0x0507) ≡ reader → cond owner ownerRight (cond reader readerRight noRight) ≡ rightOf (kind c)
-unfolding rightOf contains indexOf indexAfter
-by-ranges c e f =
-    let first = ne-eqb 0x0202 (kind c) (λ q. c .match .rest .0 .0 .0 .1 (sym q)) in
-    let second = ne-eqb 0x0502 (kind c) (λ q. c .match .rest .0 .0 .1 (sym q)) in
-    let third = ne-eqb 0x0601 (kind c) (λ q. c .match .rest .0 .1 (sym q)) in
-    let friend = ne-eqb (kind c) 0x0606 (c .match .rest .1) in
-    simp (first, second, third, friend, e, f)
+ranged c = by-ranges (kind c) (c .match .rest .0 .0 .0 .1) (c .match .rest .0 .0 .1) (c .match .rest .0 .1) (c .match .rest .1)
 
 -- and in neither of them
 unrestricted : (c : tie.At-match-rest) → (kind c < 0x0402) ⊎ (0x0405 < kind c) → (kind c < 0x0504) ⊎ (0x0507 < kind c) → noRight ≡ rightOf (kind c)
-unrestricted c h l = by-ranges c (outside 0x0402 0x0405 (kind c) h) (outside 0x0504 0x0507 (kind c) l)
+unrestricted c h l = ranged c (outside 0x0402 0x0405 (kind c) h) (outside 0x0504 0x0507 (kind c) l)
 
 returns : tie.Need-returns
 unfolding rightOf contains indexOf indexAfter
@@ -58,12 +41,12 @@ unfolding rightOf contains indexOf indexAfter
 returns-4 c = sym (ap rightOf (c .match .keys4))
 
 returns-5 : tie.Need-returns-5
-returns-5 c = by-ranges (c .before .before) (within 0x0402 0x0405 (kind (c .before .before)) (c .before .if1 .left) (omega arith)) refl
+returns-5 c = ranged (c .before .before) (within 0x0402 0x0405 (kind (c .before .before)) (c .before .if1 .left) (omega arith)) refl
 
 returns-6 : tie.Need-returns-6
 returns-6 c =
     let k : tie.At-match-rest = c .before .before .before .before in
-    by-ranges k (outside 0x0402 0x0405 (kind k) (inr (omega arith))) (within 0x0504 0x0507 (kind k) (c .before .if3 .left) (omega arith))
+    ranged k (outside 0x0402 0x0405 (kind k) (inr (omega arith))) (within 0x0504 0x0507 (kind k) (c .before .if3 .left) (omega arith))
 
 returns-7 : tie.Need-returns-7
 returns-7 c = unrestricted (c .before) (inl (omega arith)) (inl (omega arith))

@@ -3,7 +3,8 @@ use mathlib.Core.List.{[]}
 use borrow.Author.Needs.{needs}
 use Rattle.model.specs.Actions.{userMissing}
 use Rattle.model.specs.Refusals.{causeNumber, userRows}
-use Rattle.access.proofs.RefusalLaws.{login-refuses, login-passes, none-refuse, test-refuses, test-passes}
+use Rattle.access.proofs.RecordReads.{registered-at}
+use Rattle.access.proofs.RefusalLaws.{login-refuses, login-passes, none-refuse, missing-refuses, found-passes}
 use Rattle.access.proofs.refusals.user_refusal.Statement.{statement}
 use Rattle.access.proofs.refusals.user_refusal.Tie as tie
 
@@ -14,14 +15,16 @@ returns c = login-refuses _ _ _ _ (c .before .login-refusal .ensures) (c .if1 .t
 returns-2 : tie.Need-returns-2
 unfolding userRows causeNumber
 returns-2 c =
-    login-passes _ _ _ _ (c .before .before .before .login-refusal .ensures) (c .before .before .if1 .left)
-    (test-refuses userMissing [] (c .before .is-registered .ensures) (c .if2 .taken))
+    let login = c .before .before .before in
+    login-passes _ _ _ _ (login .login-refusal .ensures) (c .before .before .if1 .left)
+    (missing-refuses userMissing [] (registered-at _ _ (login .before .before .pre .2) (c .before .user-count .ensures)) (c .if2 .taken))
 
 returns-3 : tie.Need-returns-3
 unfolding userRows
 returns-3 c =
-    login-passes _ _ _ _ (c .before .before .before .login-refusal .ensures) (c .before .before .if1 .left)
-    (test-passes userMissing [] (c .before .is-registered .ensures) (c .if2 .left) none-refuse)
+    let login = c .before .before .before in
+    login-passes _ _ _ _ (login .login-refusal .ensures) (c .before .before .if1 .left)
+    (found-passes userMissing [] (registered-at _ _ (login .before .before .pre .2) (c .before .user-count .ensures)) (c .if2 .left) none-refuse)
 
 pub user-refusal-spec : {M : Type 1} → statement M
 user-refusal-spec =

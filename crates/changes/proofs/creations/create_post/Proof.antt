@@ -22,9 +22,13 @@ use Rattle.changes.proofs.creations.create_post.Tie as tie
 abbrev LeftBehind : ℕ → tie.Start → Type 0
 LeftBehind k c = RowsBehind (c .args .board .now) (cPost (c .args .login .user) (c .args .login .password) (c .args .n) (c .args .title .now)) k
 
+-- where the sender's slot was looked up
+abbrev slot : tie.Else1 → tie.After-user-slot
+slot c = c .before .before .before
+
 -- the start of the call, from behind each test
 abbrev start1 : tie.Else1 → tie.Start
-start1 c = c .before .before .before .before .before
+start1 c = slot c .before .before .before .before
 
 abbrev start2 : tie.Else2 → tie.Start
 start2 c = start1 (c .before .before .before)
@@ -41,10 +45,8 @@ unfolding changeRefusals afterLogin
 behind-number c = passed-here (behind-login (c .before .before .before)) (sym (c .before .is-post .ensures) ∙ c .if2 .left)
 
 -- the sender has a slot
-sender-slot : (c : tie.After-user-slot) → SlotWithin (start3 (c .before .before) .args .board .now) (c .user-slot .result)
-sender-slot c =
-    let passed = c .before .before .before .before .before .before .before .before in
-    sender-slot-within (start1 passed .pre .0) _ _ (passed .if1 .left) (passed .before .login-refusal .ensures) (c .user-slot .ensures)
+sender-slot : (c : tie.Else1) → SlotWithin (start1 c .args .board .now) (slot c .user-slot .result)
+sender-slot c = sender-slot-within (start1 c .pre .0) _ _ (c .if1 .left) (c .before .login-refusal .ensures) (slot c .user-slot .ensures)
 
 returns : tie.Need-returns
 unfolding changeRefusals afterLogin
@@ -64,24 +66,25 @@ returns-3 c =
 
 add-post-requires : tie.Need-add-post-requires
 add-post-requires c κs =
-    let start = start3 (c .before .before .before) in
-    let h = sender-slot (c .before) in
+    let test = c .before in
+    let start = start3 test in
+    let h = sender-slot (test .before .before .before .before .before .before) in
     (omega arith, omega arith, sound-length (start .pre .0), start .pre .1)
 
 returns-4 : tie.Need-returns-4
 unfolding changeRefusals afterLogin
 returns-4 c =
     let added = c .before .before in
-    let owner = added .before .before in
-    let test = owner .before .before in
+    let test = added .before .before in
     let passed = test .before .before .before in
+    let login = passed .before .before .before in
     let n = test .before .post-count .ensures in
     let start = start3 test in
     let a = start .args in
     let b = a .board .now in
     let u = a .login .user in
-    let o = owner .user-slot .ensures in
-    let h = sender-slot owner in
+    let o = slot login .user-slot .ensures in
+    let h = sender-slot login in
     accepted-here (passed-here (behind-number passed) (lt-leb postLimit (length (decode b .posts)) (omega arith)))
     (added .add-post .ensures ∙ ap₂ (λ (k o : ℕ). postAdded b k (a .n) o (a .title .now)) n o)
     (writes-cPost (start .pre .0 .encoded) u (a .login .password) (a .n) (a .title .now) (omega arith) (omega arith) (omega arith) (start .pre .1))
@@ -91,6 +94,7 @@ create-post-spec =
     tie.close
     (tie.spec
     (λ c κs. search needs)
+    (λ c κs. search needs)
     (λ c. search needs)
     returns
     (λ c κs. search needs)
@@ -99,7 +103,6 @@ create-post-spec =
     (λ c κs. search needs)
     (λ c. search needs)
     returns-3
-    (λ c κs. search needs)
     add-post-requires
     (λ c. search needs)
     returns-4)

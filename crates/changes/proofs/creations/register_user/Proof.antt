@@ -30,23 +30,28 @@ use Rattle.changes.proofs.creations.register_user.Tie as tie
 abbrev LeftBehind : ℕ → tie.Start → Type 0
 LeftBehind k c = RowsBehind (c .args .board .now) (cUser (c .args .login .user) (c .args .login .password) (c .args .v) (c .args .password)) k
 
+-- where the pending registration was looked up
+abbrev found : tie.Else1 → tie.After-pending-place
+found c = c .before .before .before
+
 -- the start of the call, from behind each test
 abbrev start1 : tie.Else1 → tie.Start
-start1 c = c .before .before .before .before
+start1 c = found c .before .before .before
+
+abbrev passed2 : tie.Else2 → tie.Else1
+passed2 c = c .before .before .before
 
 abbrev start2 : tie.Else2 → tie.Start
-start2 c = start1 (c .before .before .before)
+start2 c = start1 (passed2 c)
 
 behind-pending : (c : tie.Else1) → LeftBehind 4 (start1 c)
 unfolding changeRefusals pendingRows afterLogin lacksRight rightOf contains indexOf indexAfter
 behind-pending c = passed-first (pendingRows _ 0x0202 _ _ _ []) _ (all-rows _ _) (c .before .pending-refusal .ensures) (c .if1 .left)
 
 -- the pending registration is there
-place-found : (c : tie.After-pending-place) → PlaceWithin (c .pending-place .result)
-    (length (decode (start2 (c .before .before .before .before) .args .board .now) .pending)) pendingLimit
+place-found : (c : tie.Else1) → PlaceWithin (found c .pending-place .result) (length (decode (start1 c .args .board .now) .pending)) pendingLimit
 place-found c =
-    let passed = c .before .before .before .before .before .before .before in
-    pending-place-within (start1 passed .pre) _ _ (passed .if1 .left) _ _ (passed .before .pending-refusal .ensures) (c .pending-place .ensures)
+    pending-place-within (start1 c .pre) _ _ (c .if1 .left) _ _ (c .before .pending-refusal .ensures) (found c .pending-place .ensures)
 
 argument-bounds : (c : tie.Start) → (c .args .v < 2 ^ 32) × (c .args .password < 2 ^ 64)
 argument-bounds c = (omega arith, omega arith)
@@ -65,21 +70,20 @@ returns-2 c =
 
 sub-write-u16 : tie.Need-sub-write-u16
 sub-write-u16 c =
-    let place = c .before .before .before .before .before in
-    omega (arith, place-found place, place .before .before .pending-count .ensures)
+    let counted = c .before .before .before .before .before in
+    omega (arith, place-found (passed2 (counted .before .before)), counted .pending-count .ensures)
 
 cast-write-u16 : tie.Need-cast-write-u16
 cast-write-u16 c =
-    let counted = c .before .before .before .before .before .before .before in
+    let counted = c .before .before .before .before .before in
     let l = pending-limit (start2 (counted .before .before) .pre) in
     let n = counted .pending-count .ensures in
     omega arith
 
 add-user-requires : tie.Need-add-user-requires
 add-user-requires c κs =
-    let place = c .before .before .before .before .before .before .before .before .before in
-    let test = place .before .before .before .before in
-    let l = sound-length (start2 test .pre) in
+    let counted = c .before .before .before .before .before .before .before .before .before in
+    let l = sound-length (start2 (counted .before .before) .pre) in
     (omega arith, omega arith)
 
 returns-3 : tie.Need-returns-3
@@ -88,10 +92,10 @@ returns-3 c =
     let added = c .before .before in
     let counted = added .before .before .before .before in
     let removed = counted .before .before .before .before in
-    let place = removed .before .before in
-    let pending = place .before .before in
+    let pending = removed .before .before in
     let test = pending .before .before in
-    let passed = test .before .before .before in
+    let passed = passed2 test in
+    let place = found passed in
     let a = start2 test .args in
     let sound = start2 test .pre in
     let b = a .board .now in
@@ -101,7 +105,7 @@ returns-3 c =
     let m = pending-limit sound in
     let bounds = argument-bounds (start2 test) in
     let i = place .pending-place .ensures in
-    let h = place-found place in
+    let h = place-found passed in
     let without : ℕ → ℕ → List ℕ = withoutRecord b 23312 32 in
     let shorter : List ℕ = without (length (decode b .pending)) (pendingPlace (decode b) (a .v)) in
     let first = removed .remove-record .ensures
@@ -119,12 +123,12 @@ register-user-spec =
     tie.close
     (tie.spec
     (λ c κs. search needs)
+    (λ c κs. search needs)
     (λ c. search needs)
     returns
     (λ c κs. search needs)
     (λ c. search needs)
     returns-2
-    (λ c κs. search needs)
     (λ c κs. search needs)
     (λ c κs. search needs)
     sub-write-u16

@@ -19,13 +19,15 @@ returns : tie.Need-returns
 unfolding changeRefusals
 returns c = change-refused _ _ (c .before .post-refusal .ensures) (c .if1 .taken)
 
-abbrev entry : tie.After-post-place → tie.Start
-entry c = c .before .before .before .before .before .before
+abbrev found : tie.Else1 → tie.After-post-place
+found c = c .before .before .before
 
-within : (c : tie.After-post-place) → PlaceWithin (c .post-place .result) (length (decode (entry c .args .board .now) .posts)) postLimit
+abbrev entry : tie.Else1 → tie.Start
+entry c = found c .before .before .before
+
+within : (c : tie.Else1) → PlaceWithin (found c .post-place .result) (length (decode (entry c .args .board .now) .posts)) postLimit
 within c =
-    post-place-within (entry c .pre) _ _ (c .before .before .if1 .left) _ _ (c .before .before .before .post-refusal .ensures)
-    (c .post-place .ensures)
+    post-place-within (entry c .pre) _ _ (c .if1 .left) _ _ (c .before .post-refusal .ensures) (found c .post-place .ensures)
 
 mul-at : tie.Need-mul-at
 mul-at c = omega (arith, within c)
@@ -39,10 +41,10 @@ add-write-u32 c = omega (arith, within (c .before))
 returns-2 : tie.Need-returns-2
 unfolding changeRefusals
 returns-2 c =
-    let d : tie.After-post-place = c .before .before .before .before in
+    let d : tie.Else1 = c .before .before .before .before in
     let bound : entry d .args .picture < 2 ^ 32 = omega (arith, entry d .fits .picture) in
-    number-updated (entry d .pre) _ (d .post-place .ensures) (within d) _
-    (d .before .before .before .post-refusal .ensures) (d .before .before .if1 .left) 4 4 _ (lit≤ tt)
+    number-updated (entry d .pre) _ (found d .post-place .ensures) (within d) _
+    (d .before .post-refusal .ensures) (d .if1 .left) 4 4 _ (lit≤ tt)
     (c .before .before .write-u32 .ensures)
     (λ h. writes-uImgPost (entry d .pre .encoded) _ _ _ h _ bound)
 
@@ -51,9 +53,9 @@ update-picture-spec =
     tie.close
     (tie.spec
     (λ c κs. search needs)
+    (λ c κs. search needs)
     (λ c. search needs)
     returns
-    (λ c κs. search needs)
     mul-at
     add-at
     add-write-u32

@@ -19,13 +19,15 @@ returns : tie.Need-returns
 unfolding changeRefusals
 returns c = change-refused _ _ (c .before .post-refusal .ensures) (c .if1 .taken)
 
-abbrev entry : tie.After-post-place → tie.Start
-entry c = c .before .before .before .before .before .before .before
+abbrev found : tie.Else1 → tie.After-post-place
+found c = c .before .before .before
 
-within : (c : tie.After-post-place) → PlaceWithin (c .post-place .result) (length (decode (entry c .args .board .now) .posts)) postLimit
+abbrev entry : tie.Else1 → tie.Start
+entry c = found c .before .before .before .before
+
+within : (c : tie.Else1) → PlaceWithin (found c .post-place .result) (length (decode (entry c .args .board .now) .posts)) postLimit
 within c =
-    post-place-within (entry c .pre .0) _ _ (c .before .before .if1 .left) _ _ (c .before .before .before .post-refusal .ensures)
-    (c .post-place .ensures)
+    post-place-within (entry c .pre .0) _ _ (c .if1 .left) _ _ (c .before .post-refusal .ensures) (found c .post-place .ensures)
 
 mul-at : tie.Need-mul-at
 mul-at c = omega (arith, within c)
@@ -39,9 +41,9 @@ add-write-string c = omega (arith, within (c .before))
 returns-2 : tie.Need-returns-2
 unfolding changeRefusals
 returns-2 c =
-    let d : tie.After-post-place = c .before .before .before .before in
-    string-updated (entry d .pre .0) _ (d .post-place .ensures) (within d) _
-    (d .before .before .before .post-refusal .ensures) (d .before .before .if1 .left) 12 titleLimit _ (lit≤ tt)
+    let d : tie.Else1 = c .before .before .before .before in
+    string-updated (entry d .pre .0) _ (found d .post-place .ensures) (within d) _
+    (d .before .post-refusal .ensures) (d .if1 .left) 12 titleLimit _ (lit≤ tt)
     (entry d .pre .1) (c .before .before .write-string .ensures)
     (λ h. writes-uTitlePost (entry d .pre .0 .encoded) _ _ _ h _ (entry d .pre .1))
 
@@ -50,9 +52,9 @@ update-title-spec =
     tie.close
     (tie.spec
     (λ c κs. search needs)
+    (λ c κs. search needs)
     (λ c. search needs)
     returns
-    (λ c κs. search needs)
     mul-at
     add-at
     add-write-string

@@ -18,13 +18,14 @@ returns : tie.Need-returns
 unfolding changeRefusals
 returns c = change-refused _ _ (c .before .login-refusal .ensures) (c .if1 .taken)
 
-abbrev entry : tie.After-user-slot → tie.Start
-entry c = c .before .before .before .before .before .before .before .before
+abbrev slot : tie.Else1 → tie.After-user-slot
+slot c = c .before .before .before
 
-found : (c : tie.After-user-slot) → SlotWithin (entry c .args .board .now) (c .user-slot .result)
-found c =
-    sender-slot-within (entry c .pre .0) _ _ (c .before .before .if1 .left) (c .before .before .before .login-refusal .ensures)
-    (c .user-slot .ensures)
+abbrev entry : tie.Else1 → tie.Start
+entry c = slot c .before .before .before .before .before
+
+found : (c : tie.Else1) → SlotWithin (entry c .args .board .now) (slot c .user-slot .result)
+found c = sender-slot-within (entry c .pre .0) _ _ (c .if1 .left) (c .before .login-refusal .ensures) (slot c .user-slot .ensures)
 
 mul-at : tie.Need-mul-at
 mul-at c = omega (arith, found c)
@@ -47,17 +48,17 @@ returns-2 c =
     let info = c .before .before in
     let name = info .before .before .before .before in
     let password = name .before .before .before .before in
-    let slot : tie.After-user-slot = password .before .before in
-    let start = entry slot in
+    let passed : tie.Else1 = password .before .before in
+    let start = entry passed in
     let a = start .args in
-    let h = found slot in
-    let i = slot .user-slot .result in
-    let same = slot .user-slot .ensures in
+    let h = found passed in
+    let i = slot passed .user-slot .result in
+    let same = slot passed .user-slot .ensures in
     let l = sound-length (start .pre .0) in
     let first = then-number refl (16 + i * 104 + 4) refl 8 (a .password) (omega arith) (password .write-u64 .ensures) in
     let second = then-string first (16 + i * 104 + 20) refl nameLimit (a .name .now) (start .pre .1) (omega arith) (name .write-string .ensures) in
     let third = then-string second (16 + i * 104 + 46) refl infoLimit (a .info .now) (start .pre .2) (omega arith) (info .write-string2 .ensures) in
-    change-accepted _ _ (slot .before .before .before .login-refusal .ensures) (slot .before .before .if1 .left)
+    change-accepted _ _ (passed .before .login-refusal .ensures) (passed .if1 .left)
     (third ∙ ap (λ (k : ℕ). userUpdated (a .board .now) k (a .password) (a .name .now) (a .info .now)) same)
     (writes-uUser (start .pre .0 .encoded) (a .login .user) (a .login .password) (a .password) (a .name .now) (a .info .now)
     (omega arith) (omega arith) (start .pre .1) (start .pre .2))
@@ -67,9 +68,9 @@ update-user-spec =
     tie.close
     (tie.spec
     (λ c κs. search needs)
+    (λ c κs. search needs)
     (λ c. search needs)
     returns
-    (λ c κs. search needs)
     mul-at
     add-at
     add-write-u64

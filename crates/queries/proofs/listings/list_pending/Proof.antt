@@ -3,9 +3,11 @@ use native.Mathlib.Omega.{arith}
 use mathlib.Core.Path.{_≡_, refl, ap}
 use lib.Dec.{lit≤}
 use borrow.Author.Needs.{needs}
+use Rattle.bytes.specs.Bytes.{indexOf, indexAfter}
+use Rattle.model.specs.Lists.{contains}
 use Rattle.model.specs.Board.{decode}
 use Rattle.model.specs.Actions.{lPendingUReqs}
-use Rattle.model.specs.Refusals.{firstNumber, queryRefusals}
+use Rattle.model.specs.Refusals.{firstNumber, rightOf, queryRefusals}
 use Rattle.model.specs.Answers.{staffList, answerBody}
 use Rattle.model.proofs.SoundBoards.{sound-length}
 use Rattle.queries.proofs.QueryLaws.{query-refused, query-answered}
@@ -14,9 +16,12 @@ use Rattle.queries.proofs.ListAnswers.{all-pending}
 use Rattle.queries.proofs.listings.list_pending.Statement.{statement}
 use Rattle.queries.proofs.listings.list_pending.Tie as tie
 
+abbrev entry : tie.Else1 → tie.Start
+entry c = c .before .before .before .before .before
+
 -- the number of the sender's right is that of all rows, where those before it do not apply
 refusal : (c : tie.After-right-refusal) →
-    let a = c .before .before .before .before .before .before .args in
+    let a = entry (c .before .before) .args in
     c .right-refusal .result ≡ firstNumber (queryRefusals (decode (a .b .now)) (lPendingUReqs (a .login .user) (a .login .password)))
 unfolding queryRefusals
 refusal c =
@@ -27,35 +32,31 @@ refusal c =
 returns : tie.Need-returns
 unfolding queryRefusals
 returns c =
-    let checked = c .before .before in
-    let a = checked .before .before .before .args in
-    query-refused (a .b .now) (lPendingUReqs (a .login .user) (a .login .password)) (a .out .now) (c .without-body .result) (c .without-body .ensures)
-    (login-refuses _ _ _ _ (checked .login-refusal .ensures) (c .before .if1 .taken)) (c .before .if1 .taken)
+    query-refused _ _ _ _ (c .without-body .ensures)
+    (login-refuses _ _ _ _ (c .before .before .login-refusal .ensures) (c .before .if1 .taken)) (c .before .if1 .taken)
+
+right-refusal-requires : tie.Need-right-refusal-requires
+unfolding rightOf contains indexOf indexAfter
+right-refusal-requires c κs =
+    let found = c .before .before .before in
+    (entry (c .before) .pre .0, found .user-slot .ensures, rw (c .right-of .ensures) tt)
 
 returns-2 : tie.Need-returns-2
-returns-2 c =
-    let right = c .before .before in
-    let a = right .before .before .before .before .before .before .args in
-    query-refused (a .b .now) (lPendingUReqs (a .login .user) (a .login .password)) (a .out .now) (c .without-body2 .result)
-    (c .without-body2 .ensures) (refusal right) (c .before .if2 .taken)
+returns-2 c = query-refused _ _ _ _ (c .without-body2 .ensures) (refusal (c .before .before)) (c .before .if2 .taken)
 
 write-staff-list-requires : tie.Need-write-staff-list-requires
 write-staff-list-requires c κs =
-    let l = sound-length (c .before .before .before .before .before .before .before .before .before .before .pre .0) in
+    let l = sound-length (entry (c .before .before .before .before .before .before) .pre .0) in
     (lit≤ tt, omega arith, omega arith)
 
 returns-3 : tie.Need-returns-3
 unfolding answerBody
 returns-3 c =
     let row = c .before .before .before .before in
-    let found = row .before in
-    let entitled = found .before in
-    let checked = entitled .before .before .before .before in
-    let entry = checked .before .before .before in
-    let a = entry .args in
-    query-answered (a .b .now) (lPendingUReqs (a .login .user) (a .login .password)) (a .out .now) _ refl
-    (refusal (entitled .before)) (entitled .if2 .left) (c .before .before .write-staff-list .ensures)
-    (ap staffList (all-pending (entry .pre .0) (found .pending-count .ensures) (row .low-bits .ensures)))
+    let entitled = row .before .before in
+    let passed = entitled .before .before .before in
+    query-answered _ _ _ _ refl (refusal (entitled .before)) (entitled .if2 .left) (c .before .before .write-staff-list .ensures)
+    (ap staffList (all-pending (entry passed .pre .0) (row .before .pending-count .ensures) (row .low-bits .ensures)))
 
 pub list-pending-spec : {M : Type 1} → statement M
 list-pending-spec =
@@ -63,9 +64,10 @@ list-pending-spec =
     (tie.spec
     (λ c κs. search needs)
     (λ c κs. search needs)
+    (λ c κs. search needs)
     returns
     (λ c κs. search needs)
-    (λ c κs. search needs)
+    right-refusal-requires
     (λ c κs. search needs)
     returns-2
     (λ c κs. search needs)

@@ -3,7 +3,6 @@ use native.Mathlib.Omega.{arith}
 use mathlib.Core.Path.{refl, ap}
 use lib.Dec.{lit≤}
 use borrow.Author.Needs.{needs}
-use Rattle.model.specs.Actions.{lFriendReqs}
 use Rattle.model.specs.Refusals.{queryRefusals}
 use Rattle.model.specs.Answers.{staffList, answerBody}
 use Rattle.model.proofs.SoundBoards.{sound-length}
@@ -13,32 +12,28 @@ use Rattle.queries.proofs.ListAnswers.{requests-listed}
 use Rattle.queries.proofs.listings.list_requests.Statement.{statement}
 use Rattle.queries.proofs.listings.list_requests.Tie as tie
 
+abbrev entry : tie.Else1 → tie.Start
+entry c = c .before .before .before .before .before
+
 returns : tie.Need-returns
 unfolding queryRefusals
-returns c =
-    let login = c .before .before in
-    let a = login .before .before .before .args in
-    query-refused (a .b .now) (lFriendReqs (a .login .user) (a .login .password)) (a .out .now) (c .without-body .result)
-    (c .without-body .ensures) (login .login-refusal .ensures) (c .before .if1 .taken)
+returns c = query-refused _ _ _ _ (c .without-body .ensures) (c .before .before .login-refusal .ensures) (c .before .if1 .taken)
 
 write-staff-list-requires : tie.Need-write-staff-list-requires
 write-staff-list-requires c κs =
-    let l = sound-length (c .before .before .before .before .before .before .before .pre .0) in
+    let l = sound-length (entry (c .before .before) .pre .0) in
     (lit≤ tt, omega arith, omega arith)
 
 returns-2 : tie.Need-returns-2
 unfolding queryRefusals answerBody
 returns-2 c =
     let row = c .before .before .before .before in
-    let slot = row .before in
-    let passed = slot .before in
-    let entry = passed .before .before .before .before in
-    let a = entry .args in
+    let passed = row .before in
+    let found = passed .before .before in
     let refusal = passed .before .login-refusal .ensures in
-    let within = sender-slot-within (entry .pre .0) (a .login .user) (a .login .password) (passed .if1 .left) refusal (slot .user-slot .ensures) in
-    query-answered (a .b .now) (lFriendReqs (a .login .user) (a .login .password)) (a .out .now) _ refl refusal (passed .if1 .left)
-    (c .before .before .write-staff-list .ensures)
-    (ap staffList (requests-listed (entry .pre .0) (a .login .user) (within .used) (slot .user-slot .ensures) (row .user-requests .ensures)))
+    let within = sender-slot-within (entry passed .pre .0) _ _ (passed .if1 .left) refusal (found .user-slot .ensures) in
+    query-answered _ _ _ _ refl refusal (passed .if1 .left) (c .before .before .write-staff-list .ensures)
+    (ap staffList (requests-listed (entry passed .pre .0) _ (within .used) (found .user-slot .ensures) (row .user-requests .ensures)))
 
 pub list-requests-spec : {M : Type 1} → statement M
 list-requests-spec =
@@ -46,8 +41,8 @@ list-requests-spec =
     (tie.spec
     (λ c κs. search needs)
     (λ c κs. search needs)
-    returns
     (λ c κs. search needs)
+    returns
     (λ c κs. search needs)
     write-staff-list-requires
     (λ c. search needs)

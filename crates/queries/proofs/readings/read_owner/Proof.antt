@@ -19,9 +19,10 @@ returns-2 : tie.Need-returns-2
 unfolding queryRefusals answerBody ownerOf
 returns-2 c =
     let owner = c .before .before .before .before .before in
-    let test = owner .before .before in
-    let slot = numbered-post _ _ (λ (x : Post). x .owner) (owner .before .post-place .ensures) (owner .post-owner .ensures) in
-    query-answered _ _ _ _ refl (test .before .post-refusal .ensures) (test .if1 .left) (c .before .before .write-number .ensures)
+    let passed = owner .before in
+    let found = passed .before .before in
+    let slot = numbered-post _ _ (λ (x : Post). x .owner) (found .post-place .ensures) (owner .post-owner .ensures) in
+    query-answered _ _ _ _ refl (passed .before .post-refusal .ensures) (passed .if1 .left) (c .before .before .write-number .ensures)
     (ap (toLeBytes 4) (c .before .before .before .user-number .ensures ∙ ap (λ (x : User). x .number) (ap (userAt _) slot)))
 
 pub read-owner-spec : {M : Type 1} → statement M
@@ -30,8 +31,8 @@ read-owner-spec =
     (tie.spec
     (λ c κs. search needs)
     (λ c κs. search needs)
-    returns
     (λ c κs. search needs)
+    returns
     (λ c κs. search needs)
     (λ c κs. search needs)
     (λ c κs. search needs)

@@ -17,11 +17,11 @@ returns c = query-refused _ _ _ _ (c .without-body .ensures) (c .before .before 
 returns-2 : tie.Need-returns-2
 unfolding queryRefusals answerBody
 returns-2 c =
-    let place = c .before .before .before .before in
-    let test = place .before .before in
-    query-answered _ _ _ _ refl (test .before .post-refusal .ensures) (test .if1 .left) (c .before .before .write-number .ensures)
+    let passed = c .before .before .before .before .before in
+    let found = passed .before .before in
+    query-answered _ _ _ _ refl (passed .before .post-refusal .ensures) (passed .if1 .left) (c .before .before .write-number .ensures)
     (ap (toLeBytes 4)
-    (numbered-post _ _ (λ (x : Post). x .picture) (place .post-place .ensures) (c .before .before .before .post-picture .ensures)))
+    (numbered-post _ _ (λ (x : Post). x .picture) (found .post-place .ensures) (c .before .before .before .post-picture .ensures)))
 
 pub read-picture-spec : {M : Type 1} → statement M
 read-picture-spec =
@@ -29,8 +29,8 @@ read-picture-spec =
     (tie.spec
     (λ c κs. search needs)
     (λ c κs. search needs)
-    returns
     (λ c κs. search needs)
+    returns
     (λ c κs. search needs)
     (λ c κs. search needs)
     (λ c. search needs)

@@ -1,13 +1,11 @@
--- `read_request_to` meets its contract: both users are registered, and the note of v's request to u is read.
-use mathlib.Core.Path.{sym, _∙_}
-use mathlib.Core.List.{[]}
+-- `read_request_to` meets its contract: the slots of both users are in the table, and the note of v's request to u is read.
 use borrow.Author.Needs.{needs}
-use Rattle.model.specs.Refusals.{afterLogin, userRows, queryRefusals}
+use Rattle.model.specs.Refusals.{queryRefusals}
 use Rattle.model.specs.Answers.{answerBody}
 use Rattle.access.proofs.RefusalLaws.{user-refuses}
-use Rattle.access.proofs.AcceptedPlaces.{user-passed}
+use Rattle.access.proofs.AcceptedPlaces.{slots-within}
 use Rattle.queries.specs.QueryResults.{queryResult}
-use Rattle.queries.proofs.QueryLaws.{query-refused, reply-behind}
+use Rattle.queries.proofs.QueryLaws.{query-refused, note-replied}
 use Rattle.queries.proofs.readings.read_request_to.Statement.{statement}
 use Rattle.queries.proofs.readings.read_request_to.Tie as tie
 
@@ -19,22 +17,29 @@ returns c =
 
 read-request-note-requires : tie.Need-read-request-note-requires
 read-request-note-requires c κs =
-    let test = c .before in
-    let entry = test .before .before .before .before in
-    let there = user-passed _ _ _ _ (sym (test .before .user-refusal .ensures) ∙ test .if1 .left) in
-    (entry .pre .0, entry .pre .1, there .1, there .0)
+    let passed = c .before in
+    let found = passed .before .before in
+    let entry = found .before .before .before .before in
+    let slots =
+    slots-within (entry .pre .0) _ _ (passed .if1 .left) _ (passed .before .user-refusal .ensures) (found .before .user-slot .ensures)
+    (found .user-slot2 .ensures)
+    in
+    (entry .pre .0, entry .pre .1, slots .0 .room, slots .1 .room)
 
 returns-2 : tie.Need-returns-2
-unfolding queryResult queryRefusals userRows afterLogin answerBody
+unfolding queryResult queryRefusals answerBody
 returns-2 c =
-    let test = c .before .before .before .before in
-    c .before .before .read-request-note .ensures
-    ∙ reply-behind (userRows _ _ _ _ []) _ _ _ (sym (test .before .user-refusal .ensures) ∙ test .if1 .left)
+    let passed = c .before .before .before .before in
+    let found = passed .before .before in
+    note-replied _ _ _ _ _ _ (found .before .user-slot .ensures) (found .user-slot2 .ensures) _ (passed .before .user-refusal .ensures) (passed .if1 .left)
+    (c .before .before .read-request-note .ensures)
 
 pub read-request-to-spec : {M : Type 1} → statement M
 read-request-to-spec =
     tie.close
     (tie.spec
+    (λ c κs. search needs)
+    (λ c κs. search needs)
     (λ c κs. search needs)
     (λ c κs. search needs)
     returns

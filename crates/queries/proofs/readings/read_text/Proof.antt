@@ -1,8 +1,7 @@
 -- `read_text` meets its contract: the post's place is in the table, and the field copied holds its text.
-use Prim.Native.Nat.{ℕ, _+_, _*_}
+use Prim.Native.Nat.{_+_, _*_}
 use native.Mathlib.Omega.{arith}
 use mathlib.Core.Path.{refl}
-use mathlib.Core.List.{List}
 use lib.ListN.{length}
 use borrow.Author.Needs.{needs}
 use Rattle.layout.specs.StringFields.{stringBytes}
@@ -22,15 +21,16 @@ returns : tie.Need-returns
 unfolding queryRefusals
 returns c = query-refused _ _ _ _ (c .without-body .ensures) (c .before .before .post-refusal .ensures) (c .before .if1 .taken)
 
-abbrev board : tie.After-post-place → List ℕ
-board c = c .before .before .before .before .before .args .b .now
+abbrev found : tie.Else1 → tie.After-post-place
+found c = c .before .before
+
+abbrev entry : tie.Else1 → tie.Start
+entry c = found c .before .before .before
 
 -- the place is in its table
-within : (c : tie.After-post-place) → PlaceWithin (c .post-place .result) (length (decode (board c) .posts)) postLimit
+within : (c : tie.Else1) → PlaceWithin (found c .post-place .result) (length (decode (entry c .args .b .now) .posts)) postLimit
 within c =
-    let test = c .before in
-    post-place-within (test .before .before .before .before .pre .0) _ _ (test .if1 .left) _ _ (test .before .post-refusal .ensures)
-    (c .post-place .ensures)
+    post-place-within (entry c .pre .0) _ _ (c .if1 .left) _ _ (c .before .post-refusal .ensures) (found c .post-place .ensures)
 
 mul-at : tie.Need-mul-at
 mul-at c = let l = within c in omega arith
@@ -42,9 +42,11 @@ add-at-2 : tie.Need-add-at-2
 add-at-2 c = let l = within c in omega arith
 
 -- its field holds the string
-held : (c : tie.After-post-place)
-    → StringHeld (board c) (3344 + c .post-place .result * 312 + 54) textLimit (postAt (decode (board c)) (c .post-place .result) .text)
-held c = text-held (c .before .before .before .before .before .pre .0) (within c .used)
+held : (c : tie.Else1)
+    → let b = entry c .args .b .now in
+    let i = found c .post-place .result in
+    StringHeld b (3344 + i * 312 + 54) textLimit (postAt (decode b) i .text)
+held c = text-held (entry c .pre .0) (within c .used)
 
 copy-string-requires : tie.Need-copy-string-requires
 copy-string-requires c κs = let h = held (c .before) in (h .inside, omega arith)
@@ -52,10 +54,9 @@ copy-string-requires c κs = let h = held (c .before) in (h .inside, omega arith
 returns-2 : tie.Need-returns-2
 unfolding queryRefusals answerBody
 returns-2 c =
-    let place = c .before .before .before .before in
-    let test = place .before in
-    query-answered _ _ _ _ refl (test .before .post-refusal .ensures) (test .if1 .left) (c .before .before .copy-string .ensures)
-    (numbered-post _ _ (λ (x : Post). stringBytes (x .text)) (place .post-place .ensures) (held place .content))
+    let passed = c .before .before .before .before in
+    query-answered _ _ _ _ refl (passed .before .post-refusal .ensures) (passed .if1 .left) (c .before .before .copy-string .ensures)
+    (numbered-post _ _ (λ (x : Post). stringBytes (x .text)) (found passed .post-place .ensures) (held passed .content))
 
 pub read-text-spec : {M : Type 1} → statement M
 read-text-spec =
@@ -63,8 +64,8 @@ read-text-spec =
     (tie.spec
     (λ c κs. search needs)
     (λ c κs. search needs)
-    returns
     (λ c κs. search needs)
+    returns
     mul-at
     add-at
     add-at-2

@@ -22,15 +22,17 @@ returns : tie.Need-returns
 unfolding queryRefusals
 returns c = query-refused _ _ _ _ (c .without-body .ensures) (c .before .before .user-refusal .ensures) (c .before .if1 .taken)
 
-abbrev board : tie.After-user-slot → List ℕ
-board c = c .before .before .before .before .before .args .b .now
+abbrev found : tie.Else1 → tie.After-user-slot2
+found c = c .before .before
+
+abbrev entry : tie.Else1 → tie.Start
+entry c = found c .before .before .before .before
 
 -- the slot is in the table
-within : (c : tie.After-user-slot) → SlotWithin (board c) (c .user-slot .result)
+within : (c : tie.Else1) → SlotWithin (entry c .args .b .now) (found c .user-slot2 .result)
 within c =
-    let test = c .before in
-    slots-within (test .before .before .before .before .pre .0) _ _ (test .if1 .left) _ (test .before .user-refusal .ensures) refl
-    (c .user-slot .ensures) .1
+    slots-within (entry c .pre .0) _ _ (c .if1 .left) _ (c .before .user-refusal .ensures) (found c .before .user-slot .ensures)
+    (found c .user-slot2 .ensures) .1
 
 mul-at : tie.Need-mul-at
 mul-at c = let l = within c in omega arith
@@ -42,13 +44,17 @@ add-copy-string : tie.Need-add-copy-string
 add-copy-string c = let l = within c in omega arith
 
 -- its fields hold name and info
-name : (c : tie.After-user-slot)
-    → StringHeld (board c) (16 + c .user-slot .result * 104 + 20) nameLimit (userAt (decode (board c)) (c .user-slot .result) .name)
-name c = name-held (c .before .before .before .before .before .pre .0) (within c .used)
+name : (c : tie.Else1)
+    → let b = entry c .args .b .now in
+    let j = found c .user-slot2 .result in
+    StringHeld b (16 + j * 104 + 20) nameLimit (userAt (decode b) j .name)
+name c = name-held (entry c .pre .0) (within c .used)
 
-info : (c : tie.After-user-slot)
-    → StringHeld (board c) (16 + c .user-slot .result * 104 + 46) infoLimit (userAt (decode (board c)) (c .user-slot .result) .info)
-info c = info-held (c .before .before .before .before .before .pre .0) (within c .used)
+info : (c : tie.Else1)
+    → let b = entry c .args .b .now in
+    let j = found c .user-slot2 .result in
+    StringHeld b (16 + j * 104 + 46) infoLimit (userAt (decode b) j .info)
+info c = info-held (entry c .pre .0) (within c .used)
 
 copy-string-requires : tie.Need-copy-string-requires
 copy-string-requires c κs = let h = name (c .before) in (h .inside, omega arith)
@@ -74,8 +80,8 @@ copy-string-requires-2 c κs =
 info-count : (c : tie.After-copy-string2) → c .copy-string2 .result ≤ 2 + infoLimit
 info-count c = copied-count (info (c .before .before .before .before .before .before)) _ _ (c .copy-string2 .ensures)
 
-add-t11 : tie.Need-add-t11
-add-t11 c =
+add-t12 : tie.Need-add-t12
+add-t12 c =
     let n = name-count (c .before .before .before .before .before .before) in
     let i = info-count (c .before .before) in
     omega arith
@@ -85,14 +91,14 @@ unfolding queryRefusals answerBody
 returns-2 c =
     let second = c .before .before in
     let first = second .before .before .before .before in
-    let slot = first .before .before in
-    let n = held-room (name slot) in
-    let i = held-room (info slot) in
-    query-answered _ _ _ _ refl (slot .before .before .user-refusal .ensures) (slot .before .if1 .left)
+    let passed = first .before .before in
+    let slot = found passed .user-slot2 .ensures in
+    let n = held-room (name passed) in
+    let i = held-room (info passed) in
+    query-answered _ _ _ _ refl (passed .before .user-refusal .ensures) (passed .if1 .left)
     (put-behind _ _ _ _ (omega arith) (first .copy-string .ensures) refl (second .copy-string2 .ensures))
-    (ap₂ (λ (x y : List ℕ). x ++ y)
-    (numbered-user _ _ (λ (x : User). stringBytes (x .name)) (slot .user-slot .ensures) (name slot .content))
-    (numbered-user _ _ (λ (x : User). stringBytes (x .info)) (slot .user-slot .ensures) (info slot .content)))
+    (ap₂ (λ (x y : List ℕ). x ++ y) (numbered-user _ _ (λ (x : User). stringBytes (x .name)) slot (name passed .content))
+    (numbered-user _ _ (λ (x : User). stringBytes (x .info)) slot (info passed .content)))
 
 pub read-user-spec : {M : Type 1} → statement M
 read-user-spec =
@@ -100,8 +106,9 @@ read-user-spec =
     (tie.spec
     (λ c κs. search needs)
     (λ c κs. search needs)
-    returns
     (λ c κs. search needs)
+    (λ c κs. search needs)
+    returns
     mul-at
     add-at
     add-copy-string
@@ -109,6 +116,6 @@ read-user-spec =
     add-copy-string-2
     add-copy-string-3
     copy-string-requires-2
-    add-t11
+    add-t12
     (λ c. search needs)
     returns-2)

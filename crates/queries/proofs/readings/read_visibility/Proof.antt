@@ -18,10 +18,11 @@ returns-2 : tie.Need-returns-2
 unfolding queryRefusals answerBody toLeBytes
 returns-2 c =
     let visibility = c .before .before .before .before in
-    let test = visibility .before .before in
-    query-answered _ _ _ _ refl (test .before .post-refusal .ensures) (test .if1 .left) (c .before .before .write-byte .ensures)
+    let passed = visibility .before in
+    let found = passed .before .before in
+    query-answered _ _ _ _ refl (passed .before .post-refusal .ensures) (passed .if1 .left) (c .before .before .write-byte .ensures)
     (ap (toLeBytes 1)
-    (numbered-post _ _ (λ (x : Post). x .visibility) (visibility .before .post-place .ensures) (visibility .post-visibility .ensures)))
+    (numbered-post _ _ (λ (x : Post). x .visibility) (found .post-place .ensures) (visibility .post-visibility .ensures)))
 
 pub read-visibility-spec : {M : Type 1} → statement M
 read-visibility-spec =
@@ -29,8 +30,8 @@ read-visibility-spec =
     (tie.spec
     (λ c κs. search needs)
     (λ c κs. search needs)
-    returns
     (λ c κs. search needs)
+    returns
     (λ c κs. search needs)
     (λ c. search needs)
     (λ c κs. search needs)
