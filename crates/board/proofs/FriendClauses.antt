@@ -1,6 +1,5 @@
 -- The clauses about friend rows and request rows, read off the bytes: each is a test of the rows of each slot.
-use Prim.Native.Nat.{ℕ, _+_, _*_, _/_, _^_, _<_}
-use native.Mathlib.Nat.{div-eq-of-lt, div-lt-iff-lt-mul}
+use Prim.Native.Nat.{ℕ, _+_, _/_, _%_, _^_}
 use native.Mathlib.Numerals.{add-one}
 use native.Mathlib.Omega.{arith}
 use mathlib.Core.Path.{_≡_, refl, sym, ap, ap₂, _∙_}
@@ -8,12 +7,12 @@ use mathlib.Core.List.{List}
 use mathlib.Core.Bool.{Bool, true, not, _&&_}
 use lib.ListN.{length}
 use lib.Dec.{eqb, ltb}
-use lib.Bits.{bitOr, bitXor, xor-self, xor-add-and, and-le-l, and-le-r}
-use lib.Pow.{pow-pos}
-use borrow.Author.Tests.{ltb-true, lt-ltb, eqb-true, eq-eqb}
+use lib.Bits.{bitOr, bitXor, or-mod, xor-mod, xor-self, xor-add-and, and-le-l, and-le-r}
+use borrow.Author.Tests.{eqb-true, eq-eqb}
 use Rattle.layout.specs.Bits.{bitAt, hasBit}
 use Rattle.layout.proofs.BooleanLaws.{tests-agree}
 use Rattle.layout.proofs.RunLaws.{or-zero}
+use Rattle.layout.proofs.BitLaws.{below-power}
 use Rattle.model.specs.Lists.{forAll, allBelow}
 use Rattle.model.specs.State.{User, noUser, userAt}
 use Rattle.model.specs.Board.{cutBoard, userCount, decode}
@@ -36,23 +35,21 @@ xor-zero x y =
     eq-eqb x y (omega arith))
     (λ e. eq-eqb (bitXor x y) 0 (ap (bitXor x) (sym (eqb-true x y e)) ∙ xor-self x))
 
--- a row is below 2 ^ n exactly if nothing is left of it after a shift by n
-below-power : (x n : ℕ) → ltb x (2 ^ n) ≡ eqb (x / 2 ^ n) 0
-below-power x n =
-    tests-agree (ltb x (2 ^ n)) (eqb (x / 2 ^ n) 0) (λ e. eq-eqb (x / 2 ^ n) 0 (div-eq-of-lt (ltb-true x (2 ^ n) e)))
-    (λ e.
-    let z = eqb-true (x / 2 ^ n) 0 e in
-    let h : x < 1 * 2 ^ n = div-lt-iff-lt-mul (pow-pos n) .0 (omega arith) in
-    lt-ltb x (2 ^ n) (omega arith))
+-- the lowest bit of what is gathered stays zero when those of x and y are the same
+lowest-gathered : (d x y : ℕ) → eqb (bitOr d (bitXor x y) % 2) 0 ≡ (eqb (d % 2) 0 && eqb (x % 2) (y % 2))
+lowest-gathered d x y =
+    ap (λ (r : ℕ). eqb r 0) (or-mod d (bitXor x y) 1) ∙ or-zero (d % 2) (bitXor x y % 2)
+    ∙ ap (λ (t : Bool). eqb (d % 2) 0 && t) (ap (λ (r : ℕ). eqb r 0) (xor-mod x y 1) ∙ xor-zero (x % 2) (y % 2))
 
 -- ---- symmetric rows
 
--- a loop that gathers the bits that differ: x and y are bit j of row i and bit i of row j
-pub gather-bits : (b : List ℕ) (i j differing : ℕ) {x y : ℕ} → x ≡ bitAt (friendRow b i) j → y ≡ bitAt (friendRow b j) i
-    → eqb differing 0 ≡ allBelow j (symmetricAt b i) → eqb (bitOr differing (bitXor x y)) 0 ≡ allBelow (j + 1) (symmetricAt b i)
-unfolding allBelow symmetricAt
-gather-bits b i j differing {x} {y} p q e =
-    or-zero differing (bitXor x y) ∙ ap₂ _&&_ e (xor-zero x y ∙ ap₂ eqb p q)
+-- a loop that gathers the bits that differ: bit j of row i and bit i of row j are the lowest of what is left of the rows
+pub gather-bits : (b : List ℕ) (i j differing : ℕ) {rest row : ℕ} → rest ≡ friendRow b i / 2 ^ j → row ≡ friendRow b j
+    → eqb (differing % 2) 0 ≡ allBelow j (symmetricAt b i)
+    → eqb (bitOr differing (bitXor rest (row / 2 ^ i)) % 2) 0 ≡ allBelow (j + 1) (symmetricAt b i)
+unfolding allBelow symmetricAt bitAt
+gather-bits b i j differing {rest} {row} p q e =
+    lowest-gathered differing rest (row / 2 ^ i) ∙ ap₂ _&&_ e (ap₂ (λ (x y : ℕ). eqb (x % 2) (y / 2 ^ i % 2)) p q)
     ∙ ap (λ (k : ℕ). allBelow k (symmetricAt b i)) (sym (add-one j))
 
 -- ---- the clauses

@@ -13,7 +13,6 @@ use crate::USER_REQUESTS;
 use crate::USER_SIZE;
 use crate::USERS;
 use crate::header::user_count;
-use layout::bits::bit_at;
 use layout::bits::has_bit;
 use layout::number::read_u32;
 
@@ -32,19 +31,21 @@ pub(crate) fn request_row(b: &[u8], i: usize) -> u32
     read_u32(b, USERS + i * USER_SIZE + USER_REQUESTS)
 }
 
-// Whether slot i is a friend of each slot before it exactly if that one is a friend of slot i. The loop gathers and never leaves early.
+// Whether slot i is a friend of each slot before it exactly if that one is a friend of slot i. Row i is shifted by one bit for each slot, so
+// that the two bits stand lowest; the loop gathers whole rows, of which only the lowest bit counts, and never leaves early.
 fn symmetric_row(b: &[u8], i: usize) -> bool
     requires { ⌜ (i < userLimit) × (length (now b) ≡ boardSize) ⌝ }
     ensures { λ r. ⌜ r ≡ allBelow i (symmetricAt (now (b .entry)) i) ⌝ }
 {
-    let row = friend_row(b, i);
+    let mut rest = friend_row(b, i);
     let mut differing: u32 = 0;
     let mut j = 0;
     while j < i {
-        differing = differing | (bit_at(row, j) ^ bit_at(friend_row(b, j), i));
+        differing = differing | (rest ^ (friend_row(b, j) >> i));
+        rest = rest >> 1;
         j += 1;
     }
-    differing == 0
+    differing % 2 == 0
 }
 
 // "friend rows are symmetric"

@@ -17,8 +17,6 @@ use crate::SLOT_NOTES_SIZE;
 use crate::USER_LIMIT;
 use crate::friends::request_row;
 use crate::header::user_count;
-use layout::bits::bit_at;
-use layout::number::fits_width;
 use layout::number::read_u16;
 use layout::number::read_u64;
 use layout::range::lesser;
@@ -26,7 +24,8 @@ use layout::run::all_zero;
 use reader::NOTE_LIMIT;
 
 // Whether a note of at most `most` bytes stands at a place. Three words reach from the end of the string to that of the field and may
-// overlap; where fewer than eight bytes are left, all three are the field's last word, with the string's last bytes in front.
+// overlap; where fewer than eight bytes are left, all three are the field's last word, with the string's last bytes in front. These, at most
+// eight, are shifted out by two halves, as in `fits_width`, which would test for each note that they are not more.
 fn is_note(b: &[u8], at: usize, most: usize) -> bool
     requires { ⌜ (most ≤ noteLimit) × (at + 26 ≤ length (now b)) ⌝ }
     ensures { λ r. ⌜ r ≡ noteWithin most (bytesAt (now (b .entry)) at 26) ⌝ }
@@ -39,25 +38,27 @@ fn is_note(b: &[u8], at: usize, most: usize) -> bool
     let word = read_u64(b, at + 2 + first)
         | read_u64(b, at + 10 + first / 2)
         | read_u64(b, at + 18);
-    fits_width(word, n - first)
+    let half = 4 * (n - first);
+    (word >> half) >> half == 0
 }
 
-// The 32 notes to slot i: behind the last request bit they are one run. Without its bit a note may have 0 bytes, so all 26 are zero.
+// The 32 notes to slot i: behind the last request bit they are one run. Without its bit a note may have 0 bytes, so all 26 are zero. The row
+// is shifted by one bit for each note, and when nothing is left of it the last bit has been met.
 fn notes_to(b: &[u8], i: usize) -> bool
     requires { ⌜ (i < userLimit) × (length (now b) ≡ boardSize) ⌝ }
     ensures { λ r. ⌜ r ≡ allBelow userLimit (noteAllowed (now (b .entry)) i) ⌝ }
 {
-    let row = request_row(b, i);
     let at = NOTES + i * SLOT_NOTES_SIZE;
-    let n = USER_LIMIT - u32::leading_zeros(row) as usize;
+    let mut rest = request_row(b, i);
     let mut j = 0;
-    while j < n {
-        if !is_note(b, at + j * NOTE_SIZE, bit_at(row, j) as usize * NOTE_LIMIT) {
+    while rest != 0 {
+        if !is_note(b, at + j * NOTE_SIZE, (rest % 2) as usize * NOTE_LIMIT) {
             return false;
         }
+        rest = rest >> 1;
         j += 1;
     }
-    all_zero(b, at + n * NOTE_SIZE, (USER_LIMIT - n) * NOTE_SIZE)
+    all_zero(b, at + j * NOTE_SIZE, (USER_LIMIT - j) * NOTE_SIZE)
 }
 
 // "string lengths are within their limits, bytes past them zero", of notes, and "a note without its request bit is zero".

@@ -1,6 +1,6 @@
--- Laws of rows of bits: a bit after another one was set or cleared, bounds, and the places of the set bits.
+-- Laws of rows of bits: what a shift leaves, a bit after another one was set or cleared, bounds, and the places of the set bits.
 use Prim.Native.Nat.{ℕ, zero, suc, _+_, _-_, _*_, _/_, _%_, _^_, max, _≤_, _<_}
-use native.Mathlib.Nat.{add-zero, add-mul, one-mul, zero-mul, sub-zero, sub-le, le-refl, lt-of-lt-of-le, max-zero, max-eq-right, mod-lt, mod-one, mod-eq-of-lt, div-eq-of-lt, div-self, mul-mod-left, add-mul-div-right, pow-suc, eq-or-lt-of-le, le-of-suc-le-suc}
+use native.Mathlib.Nat.{add-zero, add-mul, one-mul, zero-mul, sub-zero, sub-le, le-refl, lt-of-lt-of-le, max-zero, max-eq-right, mod-lt, mod-one, mod-eq-of-lt, div-eq-of-lt, div-lt-iff-lt-mul, div-self, mul-mod-left, add-mul-div-right, pow-suc, eq-or-lt-of-le, le-of-suc-le-suc}
 use native.Mathlib.Numerals.{add-one, one-add}
 use native.Mathlib.Omega.{arith}
 use mathlib.Core.Path.{_≡_, refl, sym, ap, ap₂, _∙_, subst}
@@ -13,8 +13,28 @@ use lib.Bits.{bitAnd, bitOr, and-high, or-shr, or-step, or-add-and, or-disjoint,
 use lib.Count.{ones, ones-cat}
 use lib.Pow.{pow-pos, pow-mono, pow-lt, pow-add, high, ones-lt, ones-split, high-ones, mod-pow-add, shl-shr}
 use borrow.Table.Steps.{cases}
-use borrow.Author.Tests.{lt-ltb, le-ltb, ltb-true, ltb-false}
+use borrow.Author.Tests.{lt-ltb, le-ltb, ltb-true, ltb-false, eq-eqb, eqb-true}
 use Rattle.layout.specs.Bits.{bitAt, hasBit, setBit, clearBit, setPlaces}
+use Rattle.layout.proofs.BooleanLaws.{tests-agree}
+
+-- ---- a row shifted
+
+-- nothing is left of a row below 2 ^ n after a shift by n or more
+shift-none : (row n j : ℕ) → row < 2 ^ n → n ≤ j → row / 2 ^ j ≡ 0
+shift-none row n j h l = div-eq-of-lt (lt-of-lt-of-le h (pow-mono l))
+
+-- and only of such a row
+pub below-power : (row n : ℕ) → ltb row (2 ^ n) ≡ eqb (row / 2 ^ n) 0
+below-power row n =
+    tests-agree (ltb row (2 ^ n)) (eqb (row / 2 ^ n) 0) (λ e. eq-eqb (row / 2 ^ n) 0 (shift-none row n n (ltb-true row (2 ^ n) e) (le-refl n)))
+    (λ e.
+    let z = eqb-true (row / 2 ^ n) 0 e in
+    let h : row < 1 * 2 ^ n = div-lt-iff-lt-mul (pow-pos n) .0 (omega arith) in
+    lt-ltb row (2 ^ n) (omega arith))
+
+-- so where something is left, the shift was by less than n
+pub shift-below : (row n j : ℕ) → row < 2 ^ n → row / 2 ^ j ≢ 0 → j < n
+shift-below row n j h left = cases (ltb j n) (ltb-true j n) (λ e. absurd (left (shift-none row n j h (ltb-false j n e))))
 
 -- ---- a bit
 
@@ -25,7 +45,7 @@ bit-lt row j = omega arith
 -- a row below 2 ^ n has no bit at or above n
 pub bit-beyond : (row n j : ℕ) → row < 2 ^ n → n ≤ j → bitAt row j ≡ 0
 unfolding bitAt
-bit-beyond row n j h l = ap (λ (x : ℕ). x % 2) (div-eq-of-lt (lt-of-lt-of-le h (pow-mono l)))
+bit-beyond row n j h l = ap (λ (x : ℕ). x % 2) (shift-none row n j h l)
 
 pub bit-power : (j : ℕ) → bitAt (2 ^ j) j ≡ 1
 unfolding bitAt

@@ -1,58 +1,38 @@
 -- Laws of words, numbers read from several bytes at a time: a word is zero when its bytes are, and has room in n bytes when its bytes from n
 -- on are zero; and of loops that gather words.
-use Prim.Native.Nat.{ℕ, zero, suc, _+_, _-_, _*_, _%_, _^_, _≤_, _<_, min}
-use native.Mathlib.Nat.{pow-suc, mul-suc, lt-of-lt-of-le, one-le-pow}
+use Prim.Native.Nat.{ℕ, zero, suc, _+_, _-_, _*_, _/_, _%_, _^_, _≤_, _<_, min}
+use native.Mathlib.Nat.{pow-suc, mul-suc, one-le-pow}
 use native.Mathlib.Omega.{arith}
 use mathlib.Core.Path.{_≡_, refl, sym, ap, ap₂, _∙_}
 use mathlib.Core.List.{List, [], _∷_}
 use mathlib.Core.Bool.{Bool, true, _&&_}
 use lib.ListN.{drop}
-use lib.Dec.{eqb, leb, ltb, lit<}
+use lib.Dec.{eqb, ltb, lit<}
 use lib.Bits.{bitOr, or-lt, or-add-and, and-le-l, and-le-r}
-use lib.Count.{leadingZeros, leading-length}
-use lib.Pow.{areBytes, pow-mono, pow-add}
-use borrow.Author.Tests.{lt-ltb, le-ltb, ltb-true, ltb-false, leb-true, leb-false}
+use lib.Pow.{areBytes, pow-add, shr-shr}
+use borrow.Author.Tests.{lt-ltb, le-ltb, ltb-true, ltb-false}
 use borrow.Table.Steps.{cases}
 use Rattle.layout.specs.Bytes.{bytesAt, allZero}
 use Rattle.layout.specs.Numbers.{fromLeBytes}
 use Rattle.layout.proofs.BooleanLaws.{and-left, and-right, and-both, tests-agree, below-one}
 use Rattle.layout.proofs.ByteLaws.{zero-cover, bytesAt-none, drop-bytesAt}
 use Rattle.layout.proofs.NumberLaws.{bytes-bytesAt}
+use Rattle.layout.proofs.BitLaws.{below-power}
 use Rattle.layout.proofs.RunLaws.{zero-both}
 
--- ---- the bytes that a number needs, by its leading zeros
+-- ---- the bytes that a number needs
 
 pub byte-power : (w : ℕ) → 256 ^ w ≡ 2 ^ (8 * w)
 byte-power zero = refl
 byte-power (suc w) =
     pow-suc 256 w ∙ ap (λ (x : ℕ). x * 256) (byte-power w) ∙ sym (pow-add 2 (8 * w) 8) ∙ ap (λ (k : ℕ). 2 ^ k) (let e = mul-suc 8 w in omega arith)
 
--- the digits of x and its leading zeros make 64
-pub width-leading : (x width : ℕ) → x < 2 ^ 64 → leb 64 (leadingZeros 64 x + 8 * width) ≡ ltb x (256 ^ width)
-width-leading x width h =
-    let l = leading-length 64 x h in
-    let z : ℕ = leadingZeros 64 x in
-    let m : ℕ = l .0 in
-    let s : z + m ≡ 64 = l .1 in
-    cases (leb 64 (z + 8 * width))
-    (λ e.
-    let w = leb-true 64 (z + 8 * width) e in
-    let short : 2 ^ m ≤ 2 ^ (8 * width) = pow-mono (omega arith) in
-    e ∙ sym (lt-ltb x (256 ^ width) (rw (byte-power width) (lt-of-lt-of-le (l .2) short))))
-    (λ e.
-    let w = leb-false 64 (z + 8 * width) e in
-    let long : 2 ^ (8 * width + 1) ≤ 2 ^ m = pow-mono (omega arith) in
-    let d : 2 ^ (8 * width + 1) ≡ 2 ^ (8 * width) * 2 = pow-add 2 (8 * width) 1 in
-    let top : 2 ^ m ≤ 2 * x + 1 = l .3 in
-    let power = byte-power width in
-    e ∙ sym (le-ltb x (256 ^ width) (omega arith)))
-
--- a number of w digits has none above its leading zeros
-pub leading-below : (w x : ℕ) → x < 2 ^ w → x < 2 ^ (w - leadingZeros w x)
-leading-below w x h =
-    let l = leading-length w x h in
-    let e : l .0 ≡ w - leadingZeros w x = (let s = l .1 in omega arith) in
-    rw (sym e) (l .2)
+-- nothing is left of a number behind them, after two shifts by half of their bits
+pub width-shifts : (x width : ℕ) → eqb (x / 2 ^ (4 * width) / 2 ^ (4 * width)) 0 ≡ ltb x (256 ^ width)
+width-shifts x width =
+    let bits : 4 * width + 4 * width ≡ 8 * width = omega arith in
+    ap (λ (r : ℕ). eqb r 0) (shr-shr x (4 * width) (4 * width) ∙ ap (λ (k : ℕ). x / 2 ^ k) bits)
+    ∙ sym (below-power x (8 * width)) ∙ ap (ltb x) (sym (byte-power width))
 
 -- ---- a word and its bytes
 

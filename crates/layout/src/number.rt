@@ -29,14 +29,15 @@ pub fn read_u64(b: &[u8], at: usize) -> u64
     read_u32(b, at) as u64 + read_u32(b, at + 4) as u64 * 4294967296
 }
 
-// Whether a number has room in so many bytes.
+// Whether a number has room in so many bytes: nothing is left of it behind them. A shift by 64 is not allowed, so there are two of half the bits.
 pub fn fits_width(x: u64, width: usize) -> bool
     ensures { λ r. ⌜ r ≡ ltb x (256 ^ width) ⌝ }
 {
     if 8 < width {
         return true;
     }
-    64 <= u64::leading_zeros(x) as usize + 8 * width
+    let half = 4 * width;
+    (x >> half) >> half == 0
 }
 
 // A number of any width written, the lowest byte first; where it would reach past the end, nothing changes.

@@ -1,37 +1,39 @@
--- `symmetric_row` meets its contract. The loop's invariant: what is gathered is zero exactly if the bits compared so far are the same.
-use Prim.Native.Nat.{ℕ, _-_, _≤_}
+-- `symmetric_row` meets its contract. The loop's invariant: `rest` is row i shifted by j, and the lowest bit of what is gathered is zero exactly
+-- if the bits compared so far are the same.
+use Prim.Native.Nat.{ℕ, _-_, _/_, _%_, _^_, _≤_}
+use native.Mathlib.Nat.{div-one}
 use native.Mathlib.Omega.{arith}
-use mathlib.Core.Path.{_≡_, refl, ap, _∙_}
+use mathlib.Core.Path.{_≡_, refl, sym, ap, _∙_}
 use lib.Dec.{eqb}
+use lib.Pow.{shr-shr}
 use borrow.Author.Needs.{needs}
-use Rattle.layout.specs.Bits.{bitAt}
 use Rattle.model.specs.Lists.{allBelow}
-use Rattle.board.specs.BoardTests.{symmetricAt}
+use Rattle.board.specs.BoardTests.{friendRow, symmetricAt}
 use Rattle.board.proofs.FriendClauses.{gather-bits}
 use Rattle.board.proofs.friends.symmetric_row.Statement.{statement}
 use Rattle.board.proofs.friends.symmetric_row.Tie as tie
 
 abbrev Inv-loop : tie.InvT-loop
-Inv-loop b i row differing₀ j₀ differing j = (j ≤ i) × (eqb differing 0 ≡ allBelow j (symmetricAt b i))
+Inv-loop b i rest₀ differing₀ j₀ rest differing j = (j ≤ i) × (rest ≡ friendRow b i / 2 ^ j) × (eqb (differing % 2) 0 ≡ allBelow j (symmetricAt b i))
 
 abbrev μ-loop : tie.MeasureT-loop
-μ-loop b i row differing₀ j₀ differing j = i - j
+μ-loop b i rest₀ differing₀ j₀ rest differing j = i - j
 
 friend-row-requires : tie.Need-friend-row-requires Inv-loop μ-loop
 friend-row-requires c κs = search needs
 
 loop-holds : tie.Need-loop-holds Inv-loop μ-loop
 unfolding allBelow
-loop-holds c = (omega arith, refl)
-
-bit-at-requires : tie.Need-bit-at-requires Inv-loop μ-loop
-bit-at-requires c κs = search needs
+loop-holds c = (omega arith, c .friend-row .ensures ∙ sym (div-one _), refl)
 
 friend-row-requires-2 : tie.Need-friend-row-requires-2 Inv-loop μ-loop
 friend-row-requires-2 c κs = search needs
 
-bit-at-requires-2 : tie.Need-bit-at-requires-2 Inv-loop μ-loop
-bit-at-requires-2 c κs = search needs
+cast-differing : tie.Need-cast-differing Inv-loop μ-loop
+cast-differing c = search needs
+
+shr-differing : tie.Need-shr-differing Inv-loop μ-loop
+shr-differing c = search needs
 
 add-j : tie.Need-add-j Inv-loop μ-loop
 add-j c = search needs
@@ -41,13 +43,12 @@ loop-less c = search needs
 
 loop-again : tie.Need-loop-again Inv-loop μ-loop
 loop-again c =
-    let l = c .before .before .before .before .loop in
-    let first = c .before .before .before .before .before in
-    let a = first .before .before .args in (
+    let l = c .before .before in
+    let a = l .before .before .before .args in
+    let inv = l .loop .inv in (
       omega arith,
-      gather-bits (a .b .now) (a .i) (l .j) (l .differing)
-          (c .before .before .bit-at .ensures ∙ ap (λ (row : ℕ). bitAt row (l .j)) (first .friend-row .ensures))
-          (c .bit-at2 .ensures ∙ ap (λ (row : ℕ). bitAt row (a .i)) (c .before .friend-row2 .ensures)) (l .inv .1),
+      ap (λ (x : ℕ). x / 2) (inv .1) ∙ shr-shr (friendRow (a .b .now) (a .i)) (l .loop .j) 1,
+      gather-bits (a .b .now) (a .i) (l .loop .j) (l .loop .differing) (inv .1) (c .friend-row2 .ensures) (inv .2),
     )
 
 returns : tie.Need-returns Inv-loop μ-loop
@@ -55,7 +56,7 @@ returns c =
     let l = c .before .loop in
     let a = c .before .before .before .before .args in
     let all-compared : l .j ≡ a .i = omega arith in
-    l .inv .1 ∙ ap (λ (k : ℕ). allBelow k (symmetricAt (a .b .now) (a .i))) all-compared
+    l .inv .2 ∙ ap (λ (k : ℕ). allBelow k (symmetricAt (a .b .now) (a .i))) all-compared
 
 pub symmetric-row-spec : {M : Type 1} → statement M
 symmetric-row-spec =
@@ -65,9 +66,9 @@ symmetric-row-spec =
     μ-loop
     friend-row-requires
     loop-holds
-    bit-at-requires
     friend-row-requires-2
-    bit-at-requires-2
+    cast-differing
+    shr-differing
     add-j
     loop-less
     loop-again

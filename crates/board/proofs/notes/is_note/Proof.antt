@@ -9,6 +9,7 @@ use lib.Bits.{bitOr}
 use lib.Pow.{areBytes}
 use borrow.Author.Needs.{needs}
 use Rattle.layout.proofs.NumberLaws.{bytes-of}
+use Rattle.layout.proofs.WordLaws.{width-shifts}
 use Rattle.board.proofs.NoteClauses.{note-over, words-tail, note-rest}
 use Rattle.board.proofs.notes.is_note.Statement.{statement}
 use Rattle.board.proofs.notes.is_note.Tie as tie
@@ -53,15 +54,21 @@ add-read-u64-5 c = search needs
 read-u64-requires-3 : tie.Need-read-u64-requires-3
 read-u64-requires-3 c κs = search needs
 
-sub-fits-width : tie.Need-sub-fits-width
-sub-fits-width c = search needs
+sub-half : tie.Need-sub-half
+sub-half c = search needs
 
-fits-width-requires : tie.Need-fits-width-requires
-fits-width-requires c κs = search needs
+mul-half : tie.Need-mul-half
+mul-half c = search needs
+
+shr-result : tie.Need-shr-result
+shr-result c = search needs
+
+shr-result-2 : tie.Need-shr-result-2
+shr-result-2 c = search needs
 
 returns-2 : tie.Need-returns-2
 returns-2 c =
-    let words = c .before .before .before in
+    let words = c .before .before in
     let first = words .before .lesser in
     let read = words .before .before .before in
     let known = read .before in
@@ -69,9 +76,9 @@ returns-2 c =
     let b : List ℕ = a .b .now in
     let n = read .read-u16 in
     let y : areBytes b ≡ true = bytes-of b (λ i h. omega (arith, known .shared-slice-known .given i)) in
-    c .fits-width .ensures
+    width-shifts _ (n .result - first .result)
     ∙ ap (λ (w : ℕ). ltb w (256 ^ (n .result - first .result)))
-    (ap₂ bitOr (ap₂ bitOr (words .read-u64 .ensures) (c .before .before .read-u642 .ensures)) (c .before .read-u643 .ensures))
+    (ap₂ bitOr (ap₂ bitOr (words .read-u64 .ensures) (c .before .read-u642 .ensures)) (c .read-u643 .ensures))
     ∙ words-tail b (a .at) (n .result) y (omega arith) (first .ensures)
     ∙ note-rest b (a .at) (a .most) (n .result) (known .before .pre .1) (n .ensures) (omega arith) (omega arith)
 
@@ -91,6 +98,8 @@ is-note-spec =
     read-u64-requires-2
     add-read-u64-5
     read-u64-requires-3
-    sub-fits-width
-    fits-width-requires
+    sub-half
+    mul-half
+    shr-result
+    shr-result-2
     returns-2)

@@ -1,30 +1,33 @@
--- `fits_width` meets its contract: a number has room where its leading zeros and the width make 64 digits.
-use Prim.Native.Nat.{_+_, _*_}
+-- `fits_width` meets its contract: a number has room where two shifts leave nothing of it (`width-shifts`), and always in more than eight bytes.
+use Prim.Native.Nat.{_*_, _^_, _≤_, _<_}
+use native.Mathlib.Nat.{lt-of-lt-of-le}
 use native.Mathlib.Omega.{arith}
-use mathlib.Core.Path.{sym, _∙_}
-use lib.Count.{leadingZeros, leading-le}
+use mathlib.Core.Path.{sym}
+use lib.Pow.{pow-mono}
 use borrow.Author.Needs.{needs}
-use borrow.Author.Tests.{le-leb}
-use Rattle.layout.proofs.WordLaws.{width-leading}
+use borrow.Author.Tests.{lt-ltb}
+use Rattle.layout.proofs.WordLaws.{byte-power, width-shifts}
 use Rattle.layout.proofs.number.fits_width.Statement.{statement}
 use Rattle.layout.proofs.number.fits_width.Tie as tie
 
 returns : tie.Need-returns
 returns c =
     let a = c .before .args in
-    sym (le-leb 64 (leadingZeros 64 (a .x) + 8 * a .width) (omega arith)) ∙ width-leading (a .x) (a .width) (omega arith)
+    let word : a .x < 2 ^ 64 = omega arith in
+    let wide : 2 ^ 64 ≤ 2 ^ (8 * a .width) = pow-mono {i = 64} (omega arith) in
+    sym (lt-ltb (a .x) (256 ^ a .width) (rw (byte-power (a .width)) (lt-of-lt-of-le word wide)))
 
-cast-result : tie.Need-cast-result
-cast-result c = let l = leading-le 64 (c .before .args .x) in omega arith
+mul-half : tie.Need-mul-half
+mul-half c = search needs
 
-mul-result : tie.Need-mul-result
-mul-result c = search needs
+shr-result : tie.Need-shr-result
+shr-result c = search needs
 
-add-result : tie.Need-add-result
-add-result c = let l = leading-le 64 (c .before .args .x) in omega arith
+shr-result-2 : tie.Need-shr-result-2
+shr-result-2 c = search needs
 
 returns-2 : tie.Need-returns-2
-returns-2 c = width-leading (c .before .args .x) (c .before .args .width) (omega arith)
+returns-2 c = width-shifts (c .before .args .x) (c .before .args .width)
 
 pub fits-width-spec : {M : Type 1} → statement M
-fits-width-spec = tie.close (tie.spec returns cast-result mul-result add-result returns-2)
+fits-width-spec = tie.close (tie.spec returns mul-half shr-result shr-result-2 returns-2)
