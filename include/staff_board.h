@@ -40,7 +40,8 @@ static inline size_t staff_board_written(uint32_t result) { return result / 6553
    them are as they were. Returns why it stopped: 0 the journal is used up, 1 the board is not 50,448 bytes or not sound, 2 fewer than 518 answer bytes
    are left, 3 the rest of the journal does not begin with a whole message. The counts, STAFF_BOARD_COUNTS_SIZE bytes, become three numbers of eight bytes,
    little-endian: messages done, journal bytes passed, answer bytes written; after a stop with 1 all are 0. For counts of another length it returns
-   STAFF_BOARD_WRONG_COUNTS, and does nothing. */
+   STAFF_BOARD_WRONG_COUNTS, and does nothing. The board is tested once for a replay, and at each call of staff_board_step: many messages take less
+   time in one replay. */
 uint32_t staff_board_replay(const uint8_t *journal, size_t journal_length, uint8_t *board, size_t board_length, uint8_t *answers,
                             size_t answers_length, uint8_t *counts, size_t counts_length);
 
