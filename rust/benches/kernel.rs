@@ -153,7 +153,7 @@ fn replays(name: &str, journal: &[u8]) {
         name,
         11,
         vec![
-            Box::new(|| time(1, || pass(black_box(&empty)))),
+            Box::new(|| time(64, || pass(black_box(&empty)))),
             Box::new(|| {
                 let mut board = empty.clone();
                 time(1, || staff_board::replay(journal, &mut board, &mut out))

@@ -61,7 +61,7 @@ module _ (cause : Cause) (rows : List RefusalRow) {r t : Bool} (e : r ≡ t) whe
   pub test-passes : not r ≡ false → {n : ℕ} → n ≡ firstNumber rows → n ≡ firstNumber ((cause, not t) ∷ rows)
   test-passes f g = g ∙ sym (row-passes cause rows (ap not (sym e) ∙ f))
 
--- i is the place that was found for what the row misses, n the count of its table
+-- i is the place that a search of a table gave, n the table's count: the record that the row asks for is there if i is below n
 module _ (cause : Cause) (rows : List RefusalRow) {i n : ℕ} {t : Bool} (e : ltb i n ≡ t) where
   pub missing-refuses : n ≤ i → causeNumber cause ≡ firstNumber ((cause, not t) ∷ rows)
   missing-refuses h = test-refuses cause rows e (ap not (le-ltb i n h))

@@ -38,7 +38,7 @@ by-ranges kind n₁ n₂ n₃ n₄ e f =
 -- ---- places, for the right of a kind
 
 module _ (s : State) (x place kind : ℕ) {right : Right} (is : right ≡ rightOf kind) where
-  -- r is the right of the kind, by another name
+  -- it is enough to show it of r, which is the kind's right
   stands-by : (r : Right) → r ≡ rightOf kind → StandsAt r s x place → StandsAt right s x place
   stands-by r e h = subst (λ (q : Right). StandsAt q s x place) (e ∙ sym is) h
 
