@@ -17,79 +17,43 @@ static uint8_t answer[STAFF_BOARD_ANSWER_LIMIT], answers[10 * STAFF_BOARD_ANSWER
 static uint8_t journal[1000];
 static size_t start, end;
 
-static void put_number(int width, uint64_t x) {
-    for (int i = 0; i < width; i++) {
-        journal[end++] = (uint8_t)(x >> 8 * i);
+/* Writes a message behind the others and sends it: the number of the answer, or of the writer's refusal. */
+static unsigned send(uint32_t kind, size_t count, const uint64_t *values, const char *lent) {
+    uint32_t result = staff_board_write(kind, values, count, (const uint8_t *)lent, strlen(lent), journal + end, sizeof journal - end);
+    if (staff_board_number(result) != 0) {
+        return staff_board_number(result);
     }
-}
-
-/* A string: its length and its bytes. */
-static void put_string(const char *text) {
-    size_t length = strlen(text);
-    put_number(2, length);
-    memcpy(journal + end, text, length);
-    end += length;
-}
-
-/* Begins a message: room for L, which is known when it is sent, the kind, and U. */
-static void begin(unsigned kind, uint32_t sender) {
     start = end;
-    put_number(2, 0);
-    put_number(2, kind);
-    put_number(4, sender);
-}
-
-/* The same with P, which all kinds but 0201 have. */
-static void begin_with_password(unsigned kind, uint32_t sender) {
-    begin(kind, sender);
-    put_number(8, PASSWORD);
-}
-
-/* Sends it: the number of the answer. */
-static unsigned send(void) {
-    size_t length = end - start;
-    journal[start] = (uint8_t)((length - 2) % 256);
-    journal[start + 1] = (uint8_t)((length - 2) / 256);
-    return staff_board_number(staff_board_step(journal + start, length, board, sizeof board, answer, sizeof answer));
+    end += staff_board_written(result);
+    return staff_board_number(staff_board_step(journal + start, end - start, board, sizeof board, answer, sizeof answer));
 }
 
 static unsigned read_post(void) {
-    begin_with_password(0x0505, COLLEAGUE);
-    put_number(4, POST);
-    return send();
+    return send(0x0505, 3, (uint64_t[]){COLLEAGUE, PASSWORD, POST}, "");
 }
 
 int main(void) {
-    begin_with_password(0x0101, ADMIN);
-    unsigned refused = send();
-    begin(0x0201, COLLEAGUE);
-    put_string("from the kitchen");
-    refused |= send();
-    begin_with_password(0x0202, ADMIN);
-    put_number(4, COLLEAGUE);
-    put_number(8, PASSWORD);
-    refused |= send();
-    begin_with_password(0x0203, ADMIN);
-    put_number(4, POST);
-    put_string("Rota");
-    refused |= send();
-    begin_with_password(0x0403, ADMIN);
-    put_number(4, POST);
-    put_string("Early shift starts at six.");
-    refused |= send();
+    const char *note = "from the kitchen", *title = "Rota", *text = "Early shift starts at six.";
+    unsigned refused = send(0x0101, 2, (uint64_t[]){ADMIN, PASSWORD}, "");
+    refused |= send(0x0201, 3, (uint64_t[]){COLLEAGUE, 0, strlen(note)}, note);
+    refused |= send(0x0202, 4, (uint64_t[]){ADMIN, PASSWORD, COLLEAGUE, PASSWORD}, "");
+    refused |= send(0x0203, 5, (uint64_t[]){ADMIN, PASSWORD, POST, 0, strlen(title)}, title);
+    refused |= send(0x0403, 5, (uint64_t[]){ADMIN, PASSWORD, POST, 0, strlen(text)}, text);
 
     /* the post is for friends until its owner says otherwise */
     printf("refused with %u\n", read_post());
-    begin_with_password(0x0405, ADMIN);
-    put_number(4, POST);
-    put_number(1, 1);
-    refused |= send();
+    refused |= send(0x0405, 4, (uint64_t[]){ADMIN, PASSWORD, POST, 1}, "");
     refused |= read_post();
     printf("%.*s\n", answer[4] + 256 * answer[5], (const char *)answer + 6);
+
+    /* the values of the last message */
+    uint64_t values[STAFF_BOARD_VALUES_LIMIT];
+    uint32_t read = staff_board_read(journal + start, end - start, values, STAFF_BOARD_VALUES_LIMIT);
+    int is_read = staff_board_number(read) == 0 && staff_board_written(read) == 3 && values[0] == COLLEAGUE && values[2] == POST;
 
     uint8_t counts[STAFF_BOARD_COUNTS_SIZE];
     uint32_t stop = staff_board_replay(journal, end, replayed, sizeof replayed, answers, sizeof answers, counts, sizeof counts);
     printf("replayed %u messages\n", (unsigned)counts[0]);
     int same = stop == 0 && memcmp(board, replayed, sizeof board) == 0 && staff_board_sound(replayed, sizeof replayed) == 1;
-    return refused == 0 && same ? 0 : 1;
+    return refused == 0 && is_read && same ? 0 : 1;
 }

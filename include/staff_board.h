@@ -3,8 +3,9 @@
 
    Who owns what: every buffer is the caller's. A call reads and writes the bytes that it is lent, keeps no address after it has returned, and
    allocates nothing.
-   Buffers: a buffer is an address and a length in bytes. Any length and any contents are answered. The address is not null, even at length 0, and as
-   many bytes as the length says can be read from it on, and written where it is not const. No two buffers of a call overlap.
+   Buffers: a buffer is an address and a length in bytes; for values it is a count of them. Any length and any contents are answered. The address is not
+   null, even at length 0, and as many bytes or values as the length says can be read from it on, and written where it is not const. No two buffers of a
+   call overlap.
    Threads: the kernel has no state of its own. Calls may run at the same time as long as no buffer that one of them writes is lent to another.
    Stack: staff_board_replay calls itself for each message and takes 192 bytes of stack for it. An answer has four bytes at least, so an answer buffer of
    n bytes bounds that by 48 n bytes; after a stop with 2 the rest of the journal can be replayed with the buffer emptied. */
@@ -21,6 +22,9 @@ extern "C" {
 /* The bytes of a board, those of the largest answer, and those of the counts of a replay. */
 enum { STAFF_BOARD_SIZE = 50448, STAFF_BOARD_ANSWER_LIMIT = 518, STAFF_BOARD_COUNTS_SIZE = 24 };
 
+/* The bytes of the largest message, and the most values that a message has. */
+enum { STAFF_BOARD_FRAME_LIMIT = 278, STAFF_BOARD_VALUES_LIMIT = 7 };
+
 /* staff_board_replay: the counts have not STAFF_BOARD_COUNTS_SIZE bytes. */
 enum { STAFF_BOARD_WRONG_COUNTS = 255 };
 
@@ -32,7 +36,7 @@ uint32_t staff_board_sound(const uint8_t *board, size_t board_length);
    With 1 and 2 nothing is written. A refusal leaves the board as it was. */
 uint32_t staff_board_step(const uint8_t *message, size_t message_length, uint8_t *board, size_t board_length, uint8_t *answer, size_t answer_length);
 
-/* The two parts of what staff_board_step returned. */
+/* The two parts of what every call but staff_board_sound and staff_board_replay returns: the number, and how many bytes or values were written. */
 static inline unsigned staff_board_number(uint32_t result) { return result % 65536; }
 static inline size_t staff_board_written(uint32_t result) { return result / 65536; }
 
@@ -44,6 +48,41 @@ static inline size_t staff_board_written(uint32_t result) { return result / 6553
    time in one replay. */
 uint32_t staff_board_replay(const uint8_t *journal, size_t journal_length, uint8_t *board, size_t board_length, uint8_t *answers,
                             size_t answers_length, uint8_t *counts, size_t counts_length);
+
+/* A message is a kind and its values, in the order of its fields. The fields of each kind, kinds in hexadecimal:
+
+       0101, 0503, 0601, 0602, 0603, 0604, 0605     U P
+       0201                                         U note
+       0202                                         U P V P2
+       0203, 0402                                   U P N title
+       0204                                         U P V note
+       0205, 0301, 0501, 0502, 0509, 050A, 0606     U P V
+       0401                                         U P P2 name info
+       0403                                         U P N text
+       0404                                         U P N picture
+       0405                                         U P N visibility
+       0504, 0505, 0506, 0507, 0508                 U P N
+
+   U and V (staff numbers, U sends) and N (a post number) are one value each, 1 to 4,294,967,295; so is picture, from 0 on. P and P2 (passwords) are one
+   value each, any. Visibility is one value, 0 for friends or 1 for public. A string is two values, the place where it starts and its length: name 24 bytes
+   at most, info 56, title 40, text 256, note 24. */
+
+/* Writes the frame of a message to the start of the frame buffer; its strings start at places in the lent bytes. Returns the bytes written times 65,536,
+   plus the number: 0, or
+   5   no frame can carry the message: the kind is none of the above, it has another count of values, a value is not within the range of its field, or a
+       string is over its limit or not within the lent bytes (an empty one may start where they end);
+   13  the frame buffer is shorter than the frame. A message to which 5 applies is refused with 5.
+   With 5 and 13 nothing is written. Else the bytes behind the frame are as they were. */
+uint32_t staff_board_write(uint32_t kind, const uint64_t *values, size_t values_count, const uint8_t *lent, size_t lent_length, uint8_t *frame,
+                           size_t frame_length);
+
+/* The way back: writes the values of a message to the start of the values. The kind is in the message's bytes 2 and 3, low byte first; strings start at
+   places in the body, the message without its first four bytes, so with the body lent staff_board_write makes the same message again. Returns the count of
+   values written, 2 to 7, times 65,536, plus the number: 0, or
+   3, 4, 5  a bad frame, an unknown kind, a body that does not fit its fields, as staff_board_step refuses them;
+   13       there is no room for the values. A message to which 3, 4 or 5 applies is refused with that.
+   With 3, 4, 5 and 13 nothing is written. Else the values behind are as they were. */
+uint32_t staff_board_read(const uint8_t *message, size_t message_length, uint64_t *values, size_t values_count);
 
 #ifdef __cplusplus
 }

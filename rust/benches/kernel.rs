@@ -13,8 +13,9 @@ mod generate;
 #[path = "../tests/reference/mod.rs"]
 mod reference;
 
-use generate::{any_state, Random};
-use reference::{frame, is_sound, State, ANSWER_LIMIT};
+use generate::{any_state, carried, Random};
+use reference::{is_sound, State, ANSWER_LIMIT};
+use staff_board::Message;
 use std::hint::black_box;
 use std::path::Path;
 use std::time::Instant;
@@ -194,13 +195,20 @@ fn main() {
     time(500_000, || pass(black_box(&empty)));
     println!("| | pass | kernel | reference on bytes | reference, test and memory | reference, memory |");
     println!("|---|---|---|---|---|---|");
-    let login = |u: u32| [&u.to_le_bytes()[..], &1u64.to_le_bytes()].concat();
     // post 4, of user 5, on both boards
-    let post = 4u32.to_le_bytes();
-    let read = frame(0x0505, &[&login(1)[..], &post].concat());
-    let text = [&256u16.to_le_bytes()[..], &longest(256)].concat();
-    let update = frame(0x0403, &[&login(5)[..], &post, &text].concat());
-    let ask = frame(0x0201, &[1, 0, 0, 0, 0, 0]);
+    let (password, post) = (1, 4);
+    let read = carried(&Message::RTextPost {
+        user: 1,
+        password,
+        post,
+    });
+    let update = carried(&Message::UTextPost {
+        user: 5,
+        password,
+        post,
+        text: &longest(256),
+    });
+    let ask = carried(&Message::CNUReq { user: 1, note: b"" });
     let (sparse, full) = (sparse(), full());
     steps("empty board, 0201 (refused with 6)", &State::default(), &ask, 6);
     steps("sparse board (5 users, 10 posts), 0505", &sparse, &read, 0);

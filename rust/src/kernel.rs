@@ -1,7 +1,7 @@
 //! The functions of the archive `libabi.a`, as `include/staff_board.h` declares them: a slice is its address and its length. A slice's address is never
 //! null, and `&mut` slices do not overlap with others, which is all that the kernel asks of its caller.
 
-use crate::{Answer, Replayed, Stop};
+use crate::{Answer, Outcome, Replayed, Stop};
 
 extern "C" {
     fn staff_board_sound(board: *const u8, board_len: usize) -> u32;
@@ -23,6 +23,16 @@ extern "C" {
         counts: *mut u8,
         counts_len: usize,
     ) -> u32;
+    fn staff_board_write(
+        kind: u32,
+        values: *const u64,
+        values_count: usize,
+        lent: *const u8,
+        lent_len: usize,
+        frame: *mut u8,
+        frame_len: usize,
+    ) -> u32;
+    fn staff_board_read(message: *const u8, message_len: usize, values: *mut u64, values_count: usize) -> u32;
 }
 
 pub fn is_sound(board: &[u8]) -> bool {
@@ -42,10 +52,13 @@ pub fn step(message: &[u8], board: &mut [u8], answer: &mut [u8]) -> Answer {
             answer.len(),
         )
     };
-    Answer {
-        number: (result % 65_536) as u16,
-        written: (result / 65_536) as usize,
-    }
+    let (number, written) = parts(result);
+    Answer { number, written }
+}
+
+/// The number, and how much was written.
+fn parts(result: u32) -> (u16, usize) {
+    ((result % 65_536) as u16, (result / 65_536) as usize)
 }
 
 pub fn replay(journal: &[u8], board: &mut [u8], answers: &mut [u8]) -> Replayed {
@@ -79,14 +92,40 @@ pub fn replay(journal: &[u8], board: &mut [u8], answers: &mut [u8]) -> Replayed 
     }
 }
 
+pub fn write(kind: u32, values: &[u64], lent: &[u8], frame: &mut [u8]) -> Outcome {
+    // SAFETY: as in `step`; the count of the values is that of their slice.
+    let result = unsafe {
+        staff_board_write(
+            kind,
+            values.as_ptr(),
+            values.len(),
+            lent.as_ptr(),
+            lent.len(),
+            frame.as_mut_ptr(),
+            frame.len(),
+        )
+    };
+    let (number, written) = parts(result);
+    Outcome { number, written }
+}
+
+pub fn read(message: &[u8], values: &mut [u64]) -> Outcome {
+    // SAFETY: as in `write`.
+    let result = unsafe { staff_board_read(message.as_ptr(), message.len(), values.as_mut_ptr(), values.len()) };
+    let (number, written) = parts(result);
+    Outcome { number, written }
+}
+
 #[cfg(test)]
 mod tests {
     use super::staff_board_replay;
+    use crate::Message;
 
     /// Counts of another length than 24 bytes: 255, and board, answers and counts are as they were.
     #[test]
     fn other_counts_are_refused() {
-        let start = [14, 0, 0x01, 0x01, 7, 0, 0, 0, 1, 0, 0, 0, 0, 0, 0, 0];
+        let start = Message::StartSys { user: 7, password: 1 };
+        let start = start.to_vec().expect("a frame");
         for length in [0, 1, 23, 25, 32] {
             let mut board = vec![0; crate::BOARD_SIZE];
             let mut answers = [3; crate::ANSWER_LIMIT];

@@ -1,23 +1,28 @@
 //! The staff board kernel, from Rust.
 //!
 //! The kernel is proved; this crate only hands it slices. [`step`] and [`replay`] take slices of any length and contents and answer as document 01
-//! (`docs/papers/01-scope.md`) says, [`Board`] keeps a board that is sound. Nothing here allocates but [`Board`], and nothing is shared between
-//! threads: each call works on the slices that it is lent and on nothing else.
+//! (`docs/papers/01-scope.md`) says, [`Message`] is a message by its fields, [`Board`] keeps a board that is sound. Nothing here allocates but [`Board`]
+//! and [`Message::to_vec`], and nothing is shared between threads: each call works on the slices that it is lent and on nothing else.
 //!
 //! ```
-//! use staff_board::{Board, Refusal, ANSWER_LIMIT};
+//! use staff_board::{Board, Message, Refusal, ANSWER_LIMIT};
 //!
+//! # fn main() -> Result<(), staff_board::WriteRefusal> {
 //! let mut board = Board::empty();
 //! let mut answer = [0; ANSWER_LIMIT];
-//! // 0101, user 7, password 1: start
-//! let start = [14, 0, 0x01, 0x01, 7, 0, 0, 0, 1, 0, 0, 0, 0, 0, 0, 0];
+//! let start = Message::StartSys { user: 7, password: 1 }.to_vec()?;
 //! assert_eq!(board.step(&start, &mut answer), Ok(&[][..]));
 //! assert_eq!(board.step(&start, &mut answer), Err(Refusal::Start));
+//! # Ok(())
+//! # }
 //! ```
 
 use std::fmt;
 
 mod kernel;
+mod message;
+
+pub use message::{read, write, Message, Outcome, WriteRefusal, FRAME_LIMIT, VALUES_LIMIT};
 
 /// The bytes of a board.
 pub const BOARD_SIZE: usize = 50_448;

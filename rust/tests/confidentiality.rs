@@ -7,8 +7,9 @@
 mod generate;
 mod reference;
 
-use generate::{any_message, damage, likely_message, Random, NARROW};
-use reference::{answer, frame, frame_length, frames, State};
+use generate::{any_message, carried, damage, likely_message, Random, NARROW};
+use reference::{answer, frame_length, frames, State};
+use staff_board::Message;
 use std::collections::BTreeSet;
 
 // ---- what the accepted messages say: document 01, "Shut and open"
@@ -73,15 +74,12 @@ struct Journals {
 /// A message that changes the text of the post, by its owner.
 fn update(state: &State, post: u32, text: &[u8]) -> Vec<u8> {
     let owner = state.user(state.post(post).expect("a post").owner).expect("its owner");
-    let length = (text.len() as u16).to_le_bytes();
-    let fields: [&[u8]; 5] = [
-        &owner.number.to_le_bytes(),
-        &owner.password.to_le_bytes(),
-        &post.to_le_bytes(),
-        &length,
+    carried(&Message::UTextPost {
+        user: owner.number,
+        password: owner.password,
+        post,
         text,
-    ];
-    frame(0x0403, &fields.concat())
+    })
 }
 
 /// A message by which a registered member of the set asks for the text.
@@ -93,12 +91,11 @@ fn read(random: &mut Random, state: &State, set: &BTreeSet<u32>, post: u32) -> O
         .filter(|n| set.contains(n))
         .collect();
     let member = state.user(random.pick(&members)?)?;
-    let fields: [&[u8]; 3] = [
-        &member.number.to_le_bytes(),
-        &member.password.to_le_bytes(),
-        &post.to_le_bytes(),
-    ];
-    Some(frame(0x0505, &fields.concat()))
+    Some(carried(&Message::RTextPost {
+        user: member.number,
+        password: member.password,
+        post,
+    }))
 }
 
 fn random_pair(random: &mut Random, length: usize) -> Journals {

@@ -1,17 +1,130 @@
-//! The header `include/staff_board.h`, tried by the example in C: it is compiled with all warnings, linked with the archive and run.
+//! The header `include/staff_board.h`: its constants are those of the crate, its list of fields is that of the reference and names them as the crate does,
+//! and the example in C, which makes all calls, is compiled with all warnings, linked with the archive and run.
 
-use std::path::Path;
+mod generate;
+mod reference;
+
+use generate::{carried, message, Parts, Random};
+use reference::{fields, Field, KINDS};
+use std::path::{Path, PathBuf};
 use std::process::Command;
+
+fn top() -> PathBuf {
+    Path::new(env!("CARGO_MANIFEST_DIR")).join("..")
+}
+
+fn header() -> String {
+    std::fs::read_to_string(top().join("include/staff_board.h")).expect("the header")
+}
+
+/// The number behind `NAME = `.
+fn constant(header: &str, name: &str) -> usize {
+    let (_, behind) = header.split_once(&format!(" {name} = ")).expect(name);
+    let digits: String = behind.chars().take_while(char::is_ascii_digit).collect();
+    digits.parse().expect(name)
+}
+
+#[test]
+fn constants_are_those_of_the_crate() {
+    let header = header();
+    for (name, expected) in [
+        ("STAFF_BOARD_SIZE", staff_board::BOARD_SIZE),
+        ("STAFF_BOARD_ANSWER_LIMIT", staff_board::ANSWER_LIMIT),
+        ("STAFF_BOARD_FRAME_LIMIT", staff_board::FRAME_LIMIT),
+        ("STAFF_BOARD_VALUES_LIMIT", staff_board::VALUES_LIMIT),
+    ] {
+        assert_eq!(constant(&header, name), expected, "{name}");
+    }
+}
+
+/// The list of fields: each kind with the names of its fields. A line is kinds, with commas between them, and then their fields.
+fn list() -> Vec<(u16, Vec<String>)> {
+    let header = header();
+    let mut list = Vec::new();
+    for line in header.lines().filter(|line| line.starts_with("       0")) {
+        let words = line.split_whitespace().map(|word| word.trim_end_matches(','));
+        let (kinds, names): (Vec<&str>, Vec<&str>) = words.partition(|word| word.starts_with('0'));
+        for kind in kinds {
+            let kind = u16::from_str_radix(kind, 16).expect("a kind");
+            list.push((kind, names.iter().map(|&name| name.to_owned()).collect()));
+        }
+    }
+    list.sort();
+    list
+}
+
+/// A field by its name in the header, with the limits that the header states.
+fn field(name: &str) -> Field {
+    match name {
+        "U" | "V" | "N" => Field::Id,
+        "P" | "P2" => Field::Password,
+        "picture" => Field::Picture,
+        "visibility" => Field::Visibility,
+        "name" | "note" => Field::String(24),
+        "info" => Field::String(56),
+        "title" => Field::String(40),
+        "text" => Field::String(256),
+        _ => panic!("{name} is no field"),
+    }
+}
+
+#[test]
+fn the_list_of_fields_is_that_of_the_reference() {
+    let expected = KINDS.map(|kind| (kind, fields(kind).expect("a kind").to_vec()));
+    let list = list().into_iter();
+    let found: Vec<_> = list
+        .map(|(kind, names)| (kind, names.iter().map(|name| field(name)).collect()))
+        .collect();
+    assert_eq!(found, expected);
+}
+
+/// The number in a field of the message below, or the length of its string; none where it is random.
+fn sample(name: &str) -> Option<u64> {
+    match name {
+        "U" => Some(1),
+        "P" => Some(2),
+        "V" => Some(3),
+        "N" => Some(4),
+        "P2" => Some(5),
+        "note" | "title" | "text" | "name" => Some(6),
+        "info" => Some(7),
+        _ => None,
+    }
+}
+
+/// A field of a message stands among its values where the list has its name. The last value of a field is looked at, a string's length.
+#[test]
+fn values_stand_in_the_order_of_the_list() {
+    for (kind, names) in list() {
+        let parts = Parts {
+            kind,
+            user: 1,
+            password: 2,
+            colleague: 3,
+            post: 4,
+            new_password: 5,
+        };
+        let frame = carried(&message(&mut Random::new(11), &parts, [&[0; 6], &[0; 7]]));
+        let mut values = [0; staff_board::VALUES_LIMIT];
+        let done = staff_board::read(&frame, &mut values);
+        let mut count = 0;
+        for name in names {
+            count += if matches!(field(&name), Field::String(_)) { 2 } else { 1 };
+            let value = values[count - 1];
+            assert_eq!(sample(&name).unwrap_or(value), value, "{name} of {kind:04x}");
+        }
+        assert_eq!(done.written, count, "{kind:04x}");
+    }
+}
 
 #[test]
 fn the_example_in_c_runs() {
-    let top = Path::new(env!("CARGO_MANIFEST_DIR")).join("..");
     let program = Path::new(env!("CARGO_TARGET_TMPDIR")).join("post_and_read");
     let compiled = Command::new("cc")
         .args(["-std=c99", "-Wall", "-Wextra", "-pedantic", "-Werror", "-Iinclude"])
         .args(["examples/post_and_read.c", "target/staticlib/libabi.a", "-o"])
         .arg(&program)
-        .current_dir(&top)
+        .current_dir(top())
         .status()
         .expect("a C compiler is at hand");
     assert!(compiled.success());

@@ -20,25 +20,39 @@ use Rattle.step.specs.Results.{stepped}
 use Rattle.step.specs.declared.Answer.{Answer}
 use Rattle.replay.specs.Results.{stopNumber, replayed}
 use Rattle.replay.specs.declared.Replayed.{Replayed}
-use Rattle.abi.specs.CallResults.{stepCalled, replayCalled, countBytes, countsSize, wrongCounts, replayCallOf}
+use Rattle.writer.specs.Encoding.{WriteResult, outcome}
+use Rattle.writer.specs.declared.Outcome.{Outcome}
+use Rattle.abi.specs.CallResults.{stepCalled, writeCalled, replayCalled, countBytes, countsSize, wrongCounts, replayCallOf}
 
--- ---- the step
+-- ---- one number for two
 
--- the two parts of the one number
 packed-number : (w n : ℕ) → n < 65536 → (w * 65536 + n) % 65536 ≡ n
 packed-number w n h = omega arith
 
 packed-written : (w n : ℕ) → n < 65536 → (w * 65536 + n) / 65536 ≡ w
 packed-written w n h = omega arith
 
+module _ (w n : ℕ) {r : ℕ} (e : r ≡ w * 65536 + n) (h : n < 65536) where
+  unpacked-number : r % 65536 ≡ n
+  unpacked-number = ap (λ (x : ℕ). x % 65536) e ∙ packed-number w n h
+
+  unpacked-written : r / 65536 ≡ w
+  unpacked-written = ap (λ (x : ℕ). x / 65536) e ∙ packed-written w n h
+
 module _ (m b o : List ℕ) {a : Answer} {b′ o′ : List ℕ} (done : stepped a b′ o′ ≡ stepOf m b o) where
   pub written-short : areBytes b ≡ true → a .written ≤ answerLimit
   written-short y = let l = step-lengths m b o y in omega (arith, ap (λ (x : StepResult). x .written) done)
 
-  pub step-called : a .number < 65536 → stepCalled (a .written * 65536 + a .number) b′ o′ ≡ stepOf m b o
-  step-called h =
-      (λ i. record { number = packed-number (a .written) (a .number) h i; written = packed-written (a .written) (a .number) h i; board = b′; buffer = o′ })
-      ∙ done
+  pub step-called : {r : ℕ} → r ≡ a .written * 65536 + a .number → a .number < 65536 → stepCalled r b′ o′ ≡ stepOf m b o
+  step-called e h = (λ i. record { number = unpacked-number (a .written) (a .number) e h i; written = unpacked-written (a .written) (a .number) e h i; board = b′; buffer = o′ }) ∙ done
+
+module _ (a : Outcome) (b : List ℕ) {x : WriteResult} (done : outcome a b ≡ x) where
+  pub few-written : {n : ℕ} → x .written ≤ n → n < 65536 → a .written < 65536
+  few-written h l = omega (arith, ap (λ (y : WriteResult). y .written) done)
+
+  pub write-called : {r : ℕ} → r ≡ a .written * 65536 + a .number → a .number < 65536 → writeCalled r b ≡ x
+  write-called e h =
+      (λ i. record { number = unpacked-number (a .written) (a .number) e h i; written = unpacked-written (a .written) (a .number) e h i; buffer = b }) ∙ done
 
 -- ---- the replay
 

@@ -7,10 +7,14 @@ use lib.Dec.{eqb}
 use Rattle.layout.specs.Numbers.{toLeBytes}
 use Rattle.model.specs.Step.{StepResult}
 use Rattle.model.specs.Replay.{ReplayResult, replayOf}
+use Rattle.writer.specs.Encoding.{WriteResult}
 
--- one number for both: the bytes written above sixteen bits for the number
+-- one number for both: how much was written, above sixteen bits for the number
 abbrev pub stepCalled : ℕ → List ℕ → List ℕ → StepResult
 stepCalled r b o = record { number = r % 65536; written = r / 65536; board = b; buffer = o }
+
+abbrev pub writeCalled : ℕ → List ℕ → WriteResult
+writeCalled r b = record { number = r % 65536; written = r / 65536; buffer = b }
 
 -- the number returned, the board, the answer buffer and the counts
 pub record ReplayCall : Type 0 where

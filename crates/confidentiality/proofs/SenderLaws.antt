@@ -5,19 +5,18 @@ use native.Mathlib.Omega.{arith}
 use mathlib.Core.Path.{_≡_, refl, sym, ap, _∙_}
 use mathlib.Core.List.{List, [], _∷_}
 use mathlib.Core.Bool.{Bool, true, false, false≢true, cond}
-use mathlib.Core.Option.{Option, some, none, Option·some-injective, Option·none-ne-some}
+use mathlib.Core.Option.{Option, some, none}
 use lib.ListN.{length}
 use lib.Dec.{eqb, leb}
 use borrow.Author.Tests.{le-leb, eqb-true, not-false}
 use Rattle.layout.specs.Bytes.{bytesAt}
 use Rattle.layout.specs.Numbers.{fromLeBytes}
-use Rattle.layout.proofs.BooleanLaws.{and-left, and-right}
 use Rattle.reader.specs.Fields.{FieldType, uint, string, fieldsFit, fieldValue, fieldValues, valueNumber}
 use Rattle.reader.specs.Frames.{isFrame, kindOf, bodyOf}
-use Rattle.reader.specs.Kinds.{KindEntry, kinds, fieldsIn, kindFields}
+use Rattle.reader.specs.Kinds.{kinds, kindFields}
 use Rattle.reader.specs.Messages.{bodyContent, messageContent, bodyFits}
 use Rattle.reader.proofs.FieldLaws.{number-width, first-fits}
-use Rattle.model.specs.Lists.{forAll}
+use Rattle.reader.proofs.KindLaws.{entry-passes}
 use Rattle.model.specs.State.{State}
 use Rattle.model.specs.Actions.{numberArg}
 use Rattle.model.specs.Step.{stepState}
@@ -33,23 +32,9 @@ beginsWithNumber [] = false
 beginsWithNumber (uint width least greatest ∷ fs) = eqb width 4
 beginsWithNumber (string limit ∷ fs) = false
 
--- what the fields of every entry pass, those of a kind pass
-fields-pass : (p : List FieldType → Bool) (k : ℕ) (es : List KindEntry) (fs : List FieldType)
-    → forAll (λ (e : KindEntry). p (e .fields)) es ≡ true → fieldsIn k es ≡ some fs → p fs ≡ true
-unfolding forAll fieldsIn
-fields-pass p k [] fs all q = absurd (Option·none-ne-some fs q)
-fields-pass p k (e ∷ es) fs all q = by-test (eqb k (e .kind)) q (fields-pass p k es fs (and-right (p (e .fields)) later all))
-  where
-    later : Bool
-    later = forAll (λ (e : KindEntry). p (e .fields)) es
-
-    by-test : (t : Bool) → cond t (some (e .fields)) (fieldsIn k es) ≡ some fs → (fieldsIn k es ≡ some fs → p fs ≡ true) → p fs ≡ true
-    by-test true r f = ap p (sym (Option·some-injective (e .fields) fs r)) ∙ and-left (p (e .fields)) later all
-    by-test false r f = f r
-
 kind-begins : (k : ℕ) (fs : List FieldType) → kindFields k ≡ some fs → beginsWithNumber fs ≡ true
-unfolding kindFields kinds forAll
-kind-begins k fs q = fields-pass beginsWithNumber k kinds fs refl q
+unfolding kindFields kinds
+kind-begins k fs q = entry-passes (λ (k : ℕ) (fs : List FieldType). beginsWithNumber fs) k kinds fs refl q
 
 -- a body that fits fields that begin so has the sender that its first value says
 first-value : (fs : List FieldType) (body : List ℕ) → beginsWithNumber fs ≡ true → fieldsFit fs body 0 ≡ true

@@ -178,6 +178,20 @@ patch-join b at x y h =
     regroup : (a x y z : List ℕ) → a ++ x ++ (y ++ z) ≡ a ++ (x ++ y ++ z)
     regroup a x y z = simp append-assoc
 
+-- the same with what a function has left in b: x at a place, and y right behind it
+pub write-patches : (b : List ℕ) (at : ℕ) (x : List ℕ) {b₁ : List ℕ} → at + length x ≤ length b → b₁ ≡ writeAt b at x → b₁ ≡ patch b at x
+write-patches b at x h e = e ∙ write-within b at x refl h
+
+module _ (b : List ℕ) (at : ℕ) (x y : List ℕ) {b₁ b₂ : List ℕ} {k : ℕ} (e : b₁ ≡ patch b at x) (l : k ≡ at + length x)
+    (h : at + (length x + length y) ≤ length b) where
+  pub patch-behind : b₂ ≡ patch b₁ k y → b₂ ≡ patch b at (x ++ y)
+  patch-behind f = f ∙ ap₂ (λ (c : List ℕ) (i : ℕ). patch c i y) e l ∙ patch-join b at x y h
+
+  pub write-behind : b₂ ≡ writeAt b₁ k y → b₂ ≡ patch b at (x ++ y)
+  write-behind f =
+      let n : length b₁ ≡ length b = ap length e ∙ length-patch b at x (omega arith) in
+      patch-behind (write-patches b₁ k y (omega arith) f)
+
 -- one more byte behind a write
 pub patch-snoc : (b : List ℕ) (at : ℕ) (x : List ℕ) (v : ℕ) → at + length x < length b
     → set (patch b at x) (at + length x) v ≡ patch b at (x ++ (v ∷ []))

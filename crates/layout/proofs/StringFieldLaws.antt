@@ -14,7 +14,7 @@ use Rattle.layout.specs.Bytes.{bytesAt, patch, writeAt, allZero}
 use Rattle.layout.specs.Numbers.{toLeBytes, fromLeBytes}
 use Rattle.layout.specs.StringFields.{isString, stringBytes, stringField, statedLength, fieldString, isStringField, writeString}
 use Rattle.layout.proofs.BooleanLaws.{and-left, and-right, and-both, chain-stops, chain-goes-on}
-use Rattle.layout.proofs.ByteLaws.{length-bytesAt, length-write, take-bytesAt, drop-bytesAt, write-within, write-beyond, patch-join, zero-replicate, replicate-zero}
+use Rattle.layout.proofs.ByteLaws.{length-bytesAt, length-write, take-bytesAt, drop-bytesAt, write-within, write-beyond, write-patches, write-behind, zero-replicate, replicate-zero}
 use Rattle.layout.proofs.NumberLaws.{length-to, from-to, to-from, to-mod, to-zero, bytes-take}
 
 -- ---- what a string is
@@ -131,6 +131,15 @@ field-of-string limit f y t =
     ∙ ap (λ (q : List ℕ). take 2 f ++ q) (take-append-drop n (drop 2 f))
     ∙ take-append-drop 2 f
 
+-- the length, and behind it the bytes
+pub bytes-written : (b : List ℕ) (at : ℕ) (s : List ℕ) {b₁ b₂ : List ℕ} → at + (2 + length s) ≤ length b
+    → b₁ ≡ writeAt b at (toLeBytes 2 (length s)) → b₂ ≡ writeAt b₁ (at + 2) s → b₂ ≡ patch b at (stringBytes s)
+unfolding stringBytes
+bytes-written b at s h e₁ e₂ =
+    let n : List ℕ = toLeBytes 2 (length s) in
+    let ln = length-to 2 (length s) in
+    write-behind b at n s (write-patches b at n (omega arith) e₁) (omega arith) (omega arith) e₂
+
 -- ---- a field tested where it stands
 
 pub field-cut : (b : List ℕ) (at limit : ℕ) → length b < at + (2 + limit) → false ≡ isStringField limit (bytesAt b at (2 + limit))
@@ -215,25 +224,15 @@ module _ (b : List ℕ) (at limit : ℕ) (s : List ℕ) where
     pub string-written : {b₁ b₂ b₃ : List ℕ} → at + (2 + limit) ≤ length b
         → b₁ ≡ writeAt b at (toLeBytes 2 (length s % 65536)) → b₂ ≡ writeAt b₁ (at + 2) s
         → b₃ ≡ writeAt b₂ (at + 2 + length s) (replicate (limit - length s) 0) → b₃ ≡ writeString b at limit s
-    unfolding stringField stringBytes
-    string-written {b₁} {b₂} {b₃} l e₁ e₂ e₃ =
-        let n : ℕ = length s in
+    unfolding stringField
+    string-written l e₁ e₂ e₃ =
         let m = string-le limit s h in
-        let p : List ℕ = toLeBytes 2 n in
-        let z : List ℕ = replicate (limit - n) 0 in
-        let lp : length p ≡ 2 = length-to 2 n in
-        let lz : length z ≡ limit - n = length-replicate (limit - n) 0 in
-        let lps : length (p ++ s) ≡ 2 + n = length-append p s ∙ omega arith in
-        let k₁ : length b₁ ≡ length b = ap length e₁ ∙ length-write b at (toLeBytes 2 (n % 65536)) in
-        let k₂ : length b₂ ≡ length b = ap length e₂ ∙ length-write b₁ (at + 2) s ∙ k₁ in
-        let f₁ : b₁ ≡ patch b at p = e₁ ∙ ap (writeAt b at) (to-mod 2 n) ∙ write-within b at p lp (omega arith) in
-        let f₂ : b₂ ≡ patch b at (p ++ s) =
-        e₂ ∙ write-within b₁ (at + 2) s refl (omega arith) ∙ ap₂ (λ (x : List ℕ) (m : ℕ). patch x (at + m) s) f₁ (sym lp)
-        ∙ patch-join b at p s (omega arith)
-        in
-        let place : at + 2 + n ≡ at + length (p ++ s) = omega arith in
-        e₃ ∙ write-within b₂ (at + 2 + n) z lz (omega arith) ∙ ap₂ (λ (x : List ℕ) (m : ℕ). patch x m z) f₂ place
-        ∙ patch-join b at (p ++ s) z (omega arith) ∙ sym (string-within l)
+        let z : List ℕ = replicate (limit - length s) 0 in
+        let lz : length z ≡ limit - length s = length-replicate (limit - length s) 0 in
+        let ls = length-stringBytes s in
+        write-behind b at (stringBytes s) z
+        (bytes-written b at s (omega arith) (e₁ ∙ ap (writeAt b at) (to-mod 2 (length s))) e₂) (omega arith) (omega arith) e₃
+        ∙ sym (string-within l)
 
 pub length-write-string : (b : List ℕ) (at limit : ℕ) (s : List ℕ) → length (writeString b at limit s) ≡ length b
 unfolding writeString

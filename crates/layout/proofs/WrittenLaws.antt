@@ -4,7 +4,7 @@ use mathlib.Core.Path.{_≡_, sym, ap, ap₂, _∙_}
 use mathlib.Core.List.{List, [], _++_}
 use lib.ListN.{length, length-append}
 use Rattle.layout.specs.Bytes.{patch, writeAt, BytesWritten, bytesWritten, putBytes}
-use Rattle.layout.proofs.ByteLaws.{length-patch, patch-nil, patch-join, write-within}
+use Rattle.layout.proofs.ByteLaws.{length-patch, patch-nil, patch-behind, write-within}
 
 module _ (b : List ℕ) (at : ℕ) (x : List ℕ) {n : ℕ} {b′ : List ℕ} where
   -- x written, and its length counted
@@ -39,6 +39,4 @@ put-behind b at x y {m} {n} {k} {b₁} {b₂} h e q f =
     let c = put-count b at x e in
     bytes-put b at (x ++ y)
     (ap₂ (λ (i j : ℕ). i + j) c (put-count b₁ k y f) ∙ sym (length-append x y))
-    (put-buffer b₁ k y f
-    ∙ ap₂ (λ (l : List ℕ) (i : ℕ). patch l i y) (put-buffer b at x e) (q ∙ ap (λ (i : ℕ). at + i) c)
-    ∙ patch-join b at x y h)
+    (patch-behind b at x y (put-buffer b at x e) (q ∙ ap (λ (i : ℕ). at + i) c) h (put-buffer b₁ k y f))

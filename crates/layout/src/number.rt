@@ -1,4 +1,4 @@
-// Little-endian numbers of 2, 4 and 8 bytes, read and written.
+// Little-endian numbers: read and written with 2, 4 and 8 bytes, and written with any width.
 ghost use mathlib.Core.Path.{_≡_};
 ghost use Prim.Native.Nat.{_+_, _^_, _≤_};
 ghost use lib.ListN.{length};
@@ -41,7 +41,7 @@ pub fn fits_width(x: u64, width: usize) -> bool
 }
 
 // A number of any width written, the lowest byte first; where it would reach past the end, nothing changes.
-fn write_number(b: &mut [u8], at: usize, width: usize, x: u64)
+pub fn write_number(b: &mut [u8], at: usize, width: usize, x: u64)
     ensures { λ _. ⌜ now (b .exit) ≡ writeAt (now (b .entry)) at (toLeBytes width x) ⌝ }
 {
     if !within(b.len(), at, width) {

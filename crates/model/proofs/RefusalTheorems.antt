@@ -18,11 +18,10 @@ use Rattle.layout.proofs.BooleanLaws.{and-left, and-right, and-both}
 use Rattle.reader.specs.Frames.{isFrame, kindOf, bodyOf}
 use Rattle.reader.specs.Fields.{FieldType, FieldValue, fieldsFit, fieldValues}
 use Rattle.reader.specs.Kinds
-use Rattle.reader.specs.Kinds.{ActionName, KindEntry, kinds, fieldsIn, kindFields}
+use Rattle.reader.specs.Kinds.{ActionName, KindEntry, kinds, fieldsIn, kindFields, isKnown}
 use Rattle.reader.specs.Messages.{content, bodyContent, messageContent, bodyFits}
 use Rattle.reader.specs.declared.Refusal.{Refusal}
 use Rattle.reader.specs.declared.Refusal.the-variants.{Frame, Kind, Body}
-use Rattle.reader.proofs.MessageLaws.{isKnown}
 use Rattle.model.specs.Lists.{forAll, contains}
 use Rattle.model.specs.State.{State}
 use Rattle.model.specs.Board.{decode}

@@ -1,13 +1,15 @@
--- Laws of the table of kinds, over ranges of kinds: what a property of each kind of a range says, and that no kind lies in a gap.
+-- Laws of the table of kinds: what a property of each kind of a range says, that no kind lies in a gap, and what all entries have in common.
 use Prim.Native.Nat.{ℕ, zero, suc, _+_, _≤_, _<_}
 use native.Mathlib.Omega.{arith}
-use mathlib.Core.Path.{_≡_, refl, sym, ap, _∙_, subst}
+use mathlib.Core.Path.{_≡_, refl, sym, ap, ap₂, _∙_, subst}
 use mathlib.Core.List.{List, [], _∷_}
 use mathlib.Core.Bool.{Bool, true, false, _&&_, cond}
-use mathlib.Core.Option.{some, none}
+use mathlib.Core.Option.{some, none, Option·some-injective, Option·none-ne-some}
 use lib.Dec.{eqb, leb}
 use borrow.Table.Steps.{cases}
 use borrow.Author.Tests.{eqb-true, eqb-false, ne-eqb, le-leb}
+use Rattle.layout.proofs.BooleanLaws.{and-left, and-right}
+use Rattle.reader.specs.Fields.{FieldType}
 use Rattle.reader.specs.Kinds.{KindEntry, kinds, fieldsIn, kindFields}
 
 -- ---- a property of each of n kinds from lo on
@@ -60,3 +62,21 @@ none-in k (e ∷ es) n = ap (λ (t : Bool). cond t (some (e .fields)) (fieldsIn 
 pub unknown-kind : (k lo hi : ℕ) → lo ≤ k → k ≤ hi → NoneIs k (entriesBetween lo hi kinds) → kindFields k ≡ none
 unfolding kindFields
 unknown-kind k lo hi p q n = fields-between k lo hi kinds p q ∙ none-in k (entriesBetween lo hi kinds) n
+
+-- ---- what all entries of the table pass, a kind and its fields pass
+
+abbrev pub passAll : (ℕ → List FieldType → Bool) → List KindEntry → Bool
+passAll p [] = true
+passAll p (e ∷ es) = p (e .kind) (e .fields) && passAll p es
+
+pub entry-passes : (p : ℕ → List FieldType → Bool) (k : ℕ) (es : List KindEntry) (fs : List FieldType)
+    → passAll p es ≡ true → fieldsIn k es ≡ some fs → p k fs ≡ true
+unfolding fieldsIn
+entry-passes p k [] fs all q = absurd (Option·none-ne-some fs q)
+entry-passes p k (e ∷ es) fs all q =
+    by-test (eqb k (e .kind)) refl q (entry-passes p k es fs (and-right (p (e .kind) (e .fields)) (passAll p es) all))
+  where
+    by-test : (t : Bool) → eqb k (e .kind) ≡ t → cond t (some (e .fields)) (fieldsIn k es) ≡ some fs → (fieldsIn k es ≡ some fs → p k fs ≡ true) → p k fs ≡ true
+    by-test true t r later =
+        ap₂ p (eqb-true k (e .kind) t) (sym (Option·some-injective (e .fields) fs r)) ∙ and-left (p (e .kind) (e .fields)) (passAll p es) all
+    by-test false t r later = later r

@@ -1,14 +1,14 @@
 -- Laws of contents: what each way through a family's reader asks, over the kind and the fields.
 use Prim.Native.Nat.{ℕ, _+_, _-_, _^_, _≤_}
 use native.Mathlib.Omega.{arith}
-use mathlib.Core.Path.{_≡_, refl, sym, ap, ap₂, _∙_, subst}
+use mathlib.Core.Path.{_≡_, refl, sym, ap, ap₂, _∙_}
 use mathlib.Core.List.{List, [], _∷_}
 use mathlib.Core.Bool.{Bool, true, false, false≢true, cond}
 use mathlib.Core.Option.{Option, some, none}
 use lib.ListN.{length}
 use borrow.Author.Tests.{le-leb}
 use Rattle.reader.specs.Fields.{FieldType, uint, string, FieldValue, numberValue, stringValue, outOfBody, staffNumber, password, picture, visibility, userName, userInfo, postTitle, postText, requestNote, numberIn, stringIn, fieldFits, fieldEnd, fieldsFit, fieldValue, fieldValues}
-use Rattle.reader.specs.Kinds.{kindFields, fieldsIn, kinds}
+use Rattle.reader.specs.Kinds.{kindFields, fieldsIn, kinds, isKnown}
 use Rattle.reader.specs.Messages.{content, bodyContent, messageContent, enumContent, bodyFits, spanValue, loginValues, loginAt, spanAt}
 use Rattle.reader.specs.Frames.{frameLength, isFrame, kindOf, bodyOf}
 use Rattle.reader.specs.declared.Login.{Login}
@@ -61,10 +61,6 @@ module _ (fs : List FieldType) (body : List ℕ) (vs : List FieldValue) where
       (le-leb (at + 2 + numberIn body at 2) (length body) (string-end limit body at f))
 
 -- ---- bodies of kinds that are known
-
-abbrev pub isKnown : Option (List FieldType) → Bool
-isKnown none = false
-isKnown (some fs) = true
 
 pub refused-content : (k : ℕ) (o : Option (List FieldType)) (body : List ℕ) → isKnown o ≡ true → bodyFits o body ≡ false → content 5 [] ≡ bodyContent k o body
 unfolding bodyFits bodyContent
@@ -223,10 +219,12 @@ module _ (msg : List ℕ) (n : ℕ) (e : n ≡ frameLength msg) where
   other-message d = bad-frame msg (other-length msg (λ q. d (e ∙ q)))
 
   -- a whole frame has the content of its kind and body
+  pub frame-content : (k : ℕ) (body : List ℕ) → (n ≡ 0 → ⊥) → n ≡ length msg → k ≡ kindOf msg → body ≡ bodyOf msg
+      → bodyContent k (kindFields k) body ≡ messageContent msg
+  unfolding messageContent
+  frame-content k body z l q b =
+      ap₂ (λ (x : ℕ) (y : List ℕ). bodyContent x (kindFields x) y) q b ∙ sym (rw (is-frame msg (λ x. z (e ∙ x)) (sym e ∙ l)) refl)
+
   pub message-content : (k : ℕ) (body : List ℕ) → (n ≡ 0 → ⊥) → n ≡ length msg → k ≡ kindOf msg → body ≡ bodyOf msg
       → (r : Message) → enumContent body r ≡ bodyContent k (kindFields k) body → enumContent (bodyOf msg) r ≡ messageContent msg
-  unfolding messageContent
-  message-content k body z l q b r m =
-      rw (is-frame msg (λ x. z (e ∙ x)) (sym e ∙ l))
-      (subst (λ (x : List ℕ). enumContent x r ≡ bodyContent (kindOf msg) (kindFields (kindOf msg)) x) b
-      (subst (λ (x : ℕ). enumContent body r ≡ bodyContent x (kindFields x) body) q m))
+  message-content k body z l q b r m = ap (λ (x : List ℕ). enumContent x r) (sym b) ∙ m ∙ frame-content k body z l q b

@@ -1,6 +1,8 @@
 -- Theorems about the fields of a body and the messages that `decode` gives:
 --     values-fit, accepted-fit     the values of fields that fit, and of an accepted message, are what their types allow
 --     fields-laid, accepted-laid   the fields laid end to end are the body
+--     accepted-frame               a frame that the reader accepts has a known kind and the values of its fields
+--     refused-message              bytes that it refuses have the number of a refusal and no values
 --     spans-within                 the strings of a message lie within its body, and their lengths within the limits
 --     span-names                   what such a span names
 use Prim.Native.Nat.{ℕ, zero, suc, _+_, _≤_, _<_}
@@ -9,7 +11,7 @@ use native.Mathlib.Omega.{arith}
 use mathlib.Core.Path.{_≡_, refl, sym, ap, _∙_}
 use mathlib.Core.List.{List, [], _∷_, _++_, append-assoc}
 use mathlib.Core.Bool.{Bool, true, false, false≢true, _&&_, cond}
-use mathlib.Core.Option.{Option, some, none}
+use mathlib.Core.Option.{Option, some, none, Option·some-injective}
 use lib.ListN.{length, drop, getD}
 use lib.Seq.{drop-length}
 use lib.Dec.{leb, lit<}
@@ -24,10 +26,12 @@ use Rattle.layout.proofs.NumberLaws.{to-from, bytes-bytesAt, bytes-drop}
 use Rattle.layout.proofs.StringFieldLaws.{string-le}
 use Rattle.reader.specs.Frames.{isFrame, kindOf, bodyOf}
 use Rattle.reader.specs.Fields.{FieldType, uint, string, nameLimit, infoLimit, titleLimit, textLimit, noteLimit, FieldValue, stringValue, outOfBody, numberIn, stringIn, fieldFits, fieldEnd, fieldsFit, fieldValue, fieldValues, valueFits, valuesFit, valueBytes, valuesBytes}
-use Rattle.reader.specs.Kinds.{kinds, fieldsIn, kindFields}
-use Rattle.reader.specs.Messages.{Content, content, bodyContent, messageContent, spanValue, enumContent}
+use Rattle.reader.specs.Kinds.{kinds, fieldsIn, kindFields, isKnown, isKind}
+use Rattle.reader.specs.Messages.{Content, content, bodyContent, messageContent, isAccepted, spanValue, refusalNumber, enumContent}
 use Rattle.reader.specs.Spans.{SpanWithin, SpansWithin}
 use Rattle.reader.specs.declared.Span.{Span}
+use Rattle.reader.specs.declared.Refusal.{Refusal}
+use Rattle.reader.specs.declared.Refusal.the-variants.{Frame, Kind, Body}
 use Rattle.reader.specs.declared.Message.{Message}
 use Rattle.reader.specs.declared.Message.the-variants.{StartSys, CNUReq, CUser, CPost, CFriendReq, CFriend, DFriend, UUser, UTitlePost, UTextPost, UImgPost, UVisPost, RUser, RNUReq, RAmIAdmin, RTitlePost, RTextPost, RImgPost, RVisPost, ROwnerPost, RFriendReqToMe, RFriendReqFromMe, LPendingUReqs, LAllUsers, LAllPosts, LFriendReqs, LFriends, LFriendsOf, Refused}
 use Rattle.reader.proofs.FieldLaws.{first-fits, rest-fits, number-width, string-length, string-end, string-is}
@@ -70,34 +74,74 @@ module _ (s : List ℕ) (y : areBytes s ≡ true) where
       ap (λ (x : List ℕ). valueBytes f (fieldValue f s at) ++ x) (fields-laid fs (fieldEnd f s at) (rest-fits f fs s at e))
       ∙ field-laid f at (first-fits f fs s at e)
 
--- ---- the content of an accepted message: a code above 5 is a kind
+-- ---- the content of a message: accepted or refused
 
-module _ (msg : List ℕ) (k : ℕ) (vs : List FieldValue) (fs : List FieldType) (h : 5 < k) (t : kindFields k ≡ some fs) where
-  body-accepted : (j : ℕ) (o : Option (List FieldType)) → kindFields j ≡ o → content k vs ≡ bodyContent j o (bodyOf msg)
-      → (fieldsFit fs (bodyOf msg) 0 ≡ true) × (vs ≡ fieldValues fs (bodyOf msg) 0)
-  unfolding bodyContent
-  body-accepted j none q e = absurd (omega (arith, ap (λ (r : Content). r .code) e))
-  body-accepted j (some gs) q e = by-test (fieldsFit gs (bodyOf msg) 0) refl e
-    where
-      by-test : (b : Bool) → fieldsFit gs (bodyOf msg) 0 ≡ b → content k vs ≡ cond b (content j (fieldValues gs (bodyOf msg) 0)) (content 5 [])
-          → (fieldsFit fs (bodyOf msg) 0 ≡ true) × (vs ≡ fieldValues fs (bodyOf msg) 0)
-      by-test false f r = absurd (omega (arith, ap (λ (x : Content). x .code) r))
-      by-test true f r =
-          let same : some fs ≡ some gs = sym t ∙ ap kindFields (ap (λ (x : Content). x .code) r) ∙ q in
-          let fg : fs ≡ gs = cc in (
-            ap (λ (x : List FieldType). fieldsFit x (bodyOf msg) 0) fg ∙ f,
-            ap (λ (x : Content). x .values) r ∙ ap (λ (x : List FieldType). fieldValues x (bodyOf msg) 0) (sym fg),
-          )
+-- a frame that the reader accepts: its kind is known, its body fits the fields of that kind, and its content is their values
+pub record AcceptedFrame (msg : List ℕ) : Type 0 where
+  pub fields : List FieldType
+  pub whole : isFrame msg ≡ true
+  pub known : kindFields (kindOf msg) ≡ some fields
+  pub fit : fieldsFit fields (bodyOf msg) 0 ≡ true
+  pub read : messageContent msg ≡ content (kindOf msg) (fieldValues fields (bodyOf msg) 0)
 
+-- bytes that it refuses: the number of the refusal, and no values
+abbrev pub RefusedMessage : List ℕ → Type 0
+RefusedMessage msg = (r : Refusal) × (messageContent msg ≡ content (refusalNumber r) [])
+
+data MessageRead (msg : List ℕ) : Type 0 where
+  accepts : AcceptedFrame msg → MessageRead msg
+  refuses : RefusedMessage msg → MessageRead msg
+
+message-read : (msg : List ℕ) → MessageRead msg
+unfolding messageContent bodyContent
+message-read msg = by-frame (isFrame msg) refl
+  where
+    by-fit : (fs : List FieldType) → isFrame msg ≡ true → kindFields (kindOf msg) ≡ some fs → (t : Bool) → fieldsFit fs (bodyOf msg) 0 ≡ t → MessageRead msg
+    by-fit fs whole known true fit = accepts (record { fields = fs; whole = whole; known = known; fit = fit; read = rw (whole, known, fit) })
+    by-fit fs whole known false fit = refuses (Body, rw (whole, known, fit))
+
+    by-fields : isFrame msg ≡ true → (o : Option (List FieldType)) → kindFields (kindOf msg) ≡ o → MessageRead msg
+    by-fields whole none known = refuses (Kind, rw (whole, known))
+    by-fields whole (some fs) known = by-fit fs whole known (fieldsFit fs (bodyOf msg) 0) refl
+
+    by-frame : (t : Bool) → isFrame msg ≡ t → MessageRead msg
+    by-frame true whole = by-fields whole (kindFields (kindOf msg)) refl
+    by-frame false whole = refuses (Frame, rw whole)
+
+-- no refusal has the number of a kind, so `isAccepted` tells the two apart
+pub refusal-no-kind : (r : Refusal) → isKind (refusalNumber r) ≡ false
+unfolding isKind kindFields fieldsIn kinds
+refusal-no-kind Frame = refl
+refusal-no-kind Kind = refl
+refusal-no-kind Body = refl
+
+pub accepted-frame : (msg : List ℕ) → isAccepted msg ≡ true → AcceptedFrame msg
+unfolding isAccepted
+accepted-frame msg h = by-read (message-read msg)
+  where
+    by-read : MessageRead msg → AcceptedFrame msg
+    by-read (accepts a) = a
+    by-read (refuses (r, e)) = absurd (false≢true (sym (ap (λ (x : Content). isKind (x .code)) e ∙ refusal-no-kind r) ∙ h))
+
+pub refused-message : (msg : List ℕ) → isAccepted msg ≡ false → RefusedMessage msg
+unfolding isAccepted isKind
+refused-message msg h = by-read (message-read msg)
+  where
+    by-read : MessageRead msg → RefusedMessage msg
+    by-read (accepts a) = absurd (false≢true (sym h ∙ ap (λ (x : Content). isKind (x .code)) (a .read) ∙ ap isKnown (a .known)))
+    by-read (refuses r) = r
+
+module _ (msg : List ℕ) (k : ℕ) (vs : List FieldValue) (fs : List FieldType) (t : kindFields k ≡ some fs) where
   -- its body fits the fields of its kind, and the values are theirs
   pub accepted : content k vs ≡ messageContent msg → (fieldsFit fs (bodyOf msg) 0 ≡ true) × (vs ≡ fieldValues fs (bodyOf msg) 0)
-  unfolding messageContent
-  accepted e = by-test (isFrame msg) e
-    where
-      by-test : (b : Bool) → content k vs ≡ cond b (bodyContent (kindOf msg) (kindFields (kindOf msg)) (bodyOf msg)) (content 3 [])
-          → (fieldsFit fs (bodyOf msg) 0 ≡ true) × (vs ≡ fieldValues fs (bodyOf msg) 0)
-      by-test false r = absurd (omega (arith, ap (λ (x : Content). x .code) r))
-      by-test true r = body-accepted (kindOf msg) (kindFields (kindOf msg)) refl r
+  unfolding isAccepted isKind
+  accepted e =
+      let a : AcceptedFrame msg = accepted-frame msg (ap (λ (x : Content). isKind (x .code)) (sym e) ∙ ap isKnown t) in
+      let same : content k vs ≡ content (kindOf msg) (fieldValues (a .fields) (bodyOf msg) 0) = e ∙ a .read in
+      let fields : fs ≡ a .fields = Option·some-injective fs (a .fields) (sym t ∙ ap kindFields (ap (λ (x : Content). x .code) same) ∙ a .known) in (
+        ap (λ (x : List FieldType). fieldsFit x (bodyOf msg) 0) fields ∙ a .fit,
+        ap (λ (x : Content). x .values) same ∙ ap (λ (x : List FieldType). fieldValues x (bodyOf msg) 0) (sym fields),
+      )
 
   pub accepted-fit : content k vs ≡ messageContent msg → valuesFit fs vs ≡ true
   accepted-fit e = let a = accepted e in ap (valuesFit fs) (a .1) ∙ values-fit fs (bodyOf msg) 0 (a .0)
@@ -117,7 +161,7 @@ value-at i (f ∷ fs) [] e h = absurd (not-suc-le-zero h)
 value-at zero (f ∷ fs) (v ∷ vs) e h = and-left (valueFits f v) (valuesFit fs vs) e
 value-at (suc i) (f ∷ fs) (v ∷ vs) e h = value-at i fs vs (and-right (valueFits f v) (valuesFit fs vs) e) (le-of-suc-le-suc h)
 
-span-fits : (body : List ℕ) (limit : ℕ) (s : Span) → valueFits (string limit) (spanValue body s) ≡ true → SpanWithin body limit s
+pub span-fits : (body : List ℕ) (limit : ℕ) (s : Span) → valueFits (string limit) (spanValue body s) ≡ true → SpanWithin body limit s
 unfolding valueFits spanValue
 span-fits body limit s e = by-test (leb (s .start + s .len) (length body)) refl e
   where
@@ -140,21 +184,21 @@ pub spans-within : (msg : List ℕ) (m : Message) → enumContent (bodyOf msg) m
 unfolding enumContent kindFields fieldsIn kinds
 spans-within msg (StartSys l) e = tt
 spans-within msg (CNUReq u note) e =
-    span-fits (bodyOf msg) noteLimit note (value-at 1 _ _ (accepted-fit msg 0x0201 _ _ (lit< tt) refl e) (lit< tt))
+    span-fits (bodyOf msg) noteLimit note (value-at 1 _ _ (accepted-fit msg 0x0201 _ _ refl e) (lit< tt))
 spans-within msg (CUser l v p2) e = tt
 spans-within msg (CPost l n title) e =
-    span-fits (bodyOf msg) titleLimit title (value-at 3 _ _ (accepted-fit msg 0x0203 _ _ (lit< tt) refl e) (lit< tt))
+    span-fits (bodyOf msg) titleLimit title (value-at 3 _ _ (accepted-fit msg 0x0203 _ _ refl e) (lit< tt))
 spans-within msg (CFriendReq l v note) e =
-    span-fits (bodyOf msg) noteLimit note (value-at 3 _ _ (accepted-fit msg 0x0204 _ _ (lit< tt) refl e) (lit< tt))
+    span-fits (bodyOf msg) noteLimit note (value-at 3 _ _ (accepted-fit msg 0x0204 _ _ refl e) (lit< tt))
 spans-within msg (CFriend l v) e = tt
 spans-within msg (DFriend l v) e = tt
 spans-within msg (UUser l p2 name info) e =
-    let f = accepted-fit msg 0x0401 _ _ (lit< tt) refl e in
+    let f = accepted-fit msg 0x0401 _ _ refl e in
     (span-fits (bodyOf msg) nameLimit name (value-at 3 _ _ f (lit< tt)), span-fits (bodyOf msg) infoLimit info (value-at 4 _ _ f (lit< tt)))
 spans-within msg (UTitlePost l n title) e =
-    span-fits (bodyOf msg) titleLimit title (value-at 3 _ _ (accepted-fit msg 0x0402 _ _ (lit< tt) refl e) (lit< tt))
+    span-fits (bodyOf msg) titleLimit title (value-at 3 _ _ (accepted-fit msg 0x0402 _ _ refl e) (lit< tt))
 spans-within msg (UTextPost l n text) e =
-    span-fits (bodyOf msg) textLimit text (value-at 3 _ _ (accepted-fit msg 0x0403 _ _ (lit< tt) refl e) (lit< tt))
+    span-fits (bodyOf msg) textLimit text (value-at 3 _ _ (accepted-fit msg 0x0403 _ _ refl e) (lit< tt))
 spans-within msg (UImgPost l n picture) e = tt
 spans-within msg (UVisPost l n visibility) e = tt
 spans-within msg (RUser l v) e = tt

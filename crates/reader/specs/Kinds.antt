@@ -1,7 +1,7 @@
 -- The 28 kinds of message: number, name and fields, in the order of document 01. The names are CoSMed's.
 use Prim.Native.Nat.{ℕ}
 use mathlib.Core.List.{List, [], _∷_}
-use mathlib.Core.Bool.{cond}
+use mathlib.Core.Bool.{Bool, true, false, cond}
 use mathlib.Core.Option.{Option, some, none}
 use lib.Dec.{eqb}
 use Rattle.reader.specs.Fields.{FieldType, staffNumber, postNumber, password, picture, visibility, userName, userInfo, postTitle, postText, requestNote}
@@ -62,3 +62,11 @@ fieldsIn k (e ∷ es) = cond (eqb k (e .kind)) (some (e .fields)) (fieldsIn k es
 
 unfoldable pub kindFields : ℕ → Option (List FieldType)
 kindFields k = fieldsIn k kinds
+
+-- whether a number is that of a kind
+abbrev pub isKnown : Option (List FieldType) → Bool
+isKnown none = false
+isKnown (some fs) = true
+
+unfoldable pub isKind : ℕ → Bool
+isKind k = isKnown (kindFields k)

@@ -9,7 +9,7 @@ use Rattle.layout.specs.Bytes.{bytesAt}
 use Rattle.layout.specs.Numbers.{fromLeBytes}
 use Rattle.reader.specs.Frames.{isFrame, kindOf, bodyOf}
 use Rattle.reader.specs.Fields.{FieldType, FieldValue, numberValue, stringValue, outOfBody, fieldsFit, fieldValues}
-use Rattle.reader.specs.Kinds.{kindFields}
+use Rattle.reader.specs.Kinds.{kindFields, isKind}
 use Rattle.reader.specs.declared.Login.{Login}
 use Rattle.reader.specs.declared.Span.{Span}
 use Rattle.reader.specs.declared.Refusal.{Refusal}
@@ -33,6 +33,10 @@ bodyContent kind (some fs) body = cond (fieldsFit fs body 0) (content kind (fiel
 
 unfoldable pub messageContent : List ℕ → Content
 messageContent msg = cond (isFrame msg) (bodyContent (kindOf msg) (kindFields (kindOf msg)) (bodyOf msg)) (content 3 [])
+
+-- the reader accepts bytes: their code is a kind, and no refusal
+unfoldable pub isAccepted : List ℕ → Bool
+isAccepted msg = isKind (messageContent msg .code)
 
 -- ---- the enum
 

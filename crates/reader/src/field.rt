@@ -11,7 +11,7 @@ use layout::number::read_u64;
 use layout::range::within;
 
 // The number of 1, 4 or 8 bytes at a place.
-fn number(body: &[u8], at: usize, width: usize) -> u64
+pub fn number(body: &[u8], at: usize, width: usize) -> u64
     requires { ⌜ (at + width ≤ length (now body)) × ((eqb width 1 || (eqb width 4 || eqb width 8)) ≡ true) ⌝ }
     ensures { λ r. ⌜ r ≡ numberIn (now (body .entry)) at width ⌝ }
 {
@@ -25,7 +25,7 @@ fn number(body: &[u8], at: usize, width: usize) -> u64
 }
 
 // Whether a number of this width stands at a place, from the least to the greatest.
-pub(crate) fn number_fits(body: &[u8], at: usize, width: usize, least: u64, greatest: u64) -> bool
+pub fn number_fits(body: &[u8], at: usize, width: usize, least: u64, greatest: u64) -> bool
     requires { ⌜ (eqb width 1 || (eqb width 4 || eqb width 8)) ≡ true ⌝ }
     ensures { λ r. ⌜ r ≡ fieldFits (uint width least greatest) (now (body .entry)) at ⌝ }
 {
@@ -54,7 +54,7 @@ pub(crate) fn password_fits(body: &[u8], at: usize) -> bool
 }
 
 // Whether a string stands at a place whole, of at most `limit` bytes.
-pub(crate) fn string_fits(body: &[u8], at: usize, limit: usize) -> bool
+pub fn string_fits(body: &[u8], at: usize, limit: usize) -> bool
     ensures { λ r. ⌜ r ≡ fieldFits (string limit) (now (body .entry)) at ⌝ }
 {
     if !within(body.len(), at, 2) {

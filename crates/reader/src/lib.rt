@@ -1,7 +1,7 @@
 // Reads one message: its frame, its body uncopied, and the message as one of its cases.
 mod bodies;
 mod family;
-mod field;
+pub mod field;
 pub mod frame;
 
 ghost use mathlib.Core.Path.{_≡_};
@@ -34,7 +34,7 @@ pub struct Login {
     pub password: u64,
 }
 
-// The place of a string within the body of a message.
+// The place of a string: within the body of a message, or in the bytes that are lent to write one.
 pub struct Span {
     pub start: usize,
     pub len: usize,

@@ -1,7 +1,8 @@
 //! Random messages, states and damage, from a fixed seed.
 #![allow(dead_code)] // each test uses a part of it
 
-use crate::reference::{frame, Pending, Post, State, User, KINDS};
+use crate::reference::{fields, Field, Pending, Post, State, User, KINDS};
+use staff_board::Message;
 
 /// A small generator of random numbers (SplitMix64).
 pub struct Random {
@@ -52,32 +53,13 @@ impl Random {
     }
 }
 
-/// What stands behind U and P.
-#[derive(Clone, Copy)]
-enum Field {
-    Staff,
-    Post,
-    Password,
-    Picture,
-    Visibility,
-    String(usize),
-}
-
-fn fields(kind: u16) -> &'static [Field] {
-    use Field::*;
-    match kind {
-        0x0201 => &[String(24)],
-        0x0202 => &[Staff, Password],
-        0x0203 | 0x0402 => &[Post, String(40)],
-        0x0204 => &[Staff, String(24)],
-        0x0401 => &[Password, String(24), String(56)],
-        0x0403 => &[Post, String(256)],
-        0x0404 => &[Post, Picture],
-        0x0405 => &[Post, Visibility],
-        0x0205 | 0x0301 | 0x0501 | 0x0502 | 0x0509 | 0x050a | 0x0606 => &[Staff],
-        0x0504..=0x0508 => &[Post],
-        _ => &[],
-    }
+/// The limits of the strings of a kind, which stand at its end.
+pub fn string_limits(kind: u16) -> Vec<usize> {
+    let limit = |field: &Field| match *field {
+        Field::String(limit) => Some(limit),
+        _ => None,
+    };
+    fields(kind).into_iter().flatten().filter_map(limit).collect()
 }
 
 /// Which numbers messages carry: staff and post numbers from 1 on, passwords from 0 on.
@@ -102,19 +84,19 @@ pub const NARROW: Range = Range {
 };
 
 /// What a message is made of; a kind takes what its fields need.
-struct Parts {
-    kind: u16,
-    sender: u32,
-    password: u64,
-    staff: u32,
-    post: u32,
-    new_password: u64,
+pub struct Parts {
+    pub kind: u16,
+    pub user: u32,
+    pub password: u64,
+    pub colleague: u32,
+    pub post: u32,
+    pub new_password: u64,
 }
 
 /// A random message: its numbers from the range, whatever the state holds.
 pub fn any_message(random: &mut Random, range: &Range) -> Vec<u8> {
     let parts = any_parts(random, range);
-    message(random, &parts, 0)
+    frame(random, &parts)
 }
 
 /// A random message with a string that is a byte over its limit, or a visibility above 1; now and then it is still a good one.
@@ -124,15 +106,32 @@ pub fn unfit_message(random: &mut Random, range: &Range) -> Vec<u8> {
         kind,
         ..any_parts(random, range)
     };
-    message(random, &parts, 1)
+    // no frame carries it, so it is made by hand from one that has empty strings
+    let limits = string_limits(kind);
+    let mut frame = carried(&message(random, &parts, [&[], &[]]));
+    if kind == 0x0405 {
+        frame[20] += 2;
+    }
+    frame.truncate(frame.len() - 2 * limits.len());
+    for limit in limits {
+        let string = if random.once_in(2) {
+            random.bytes(limit + 1)
+        } else {
+            random.string(limit)
+        };
+        frame.extend((string.len() as u16).to_le_bytes());
+        frame.extend(string);
+    }
+    set_length(&mut frame);
+    frame
 }
 
-fn any_parts(random: &mut Random, range: &Range) -> Parts {
+pub fn any_parts(random: &mut Random, range: &Range) -> Parts {
     Parts {
         kind: KINDS[random.below(KINDS.len())],
-        sender: random.below(range.staff) as u32 + 1,
+        user: random.below(range.staff) as u32 + 1,
         password: random.below(range.passwords) as u64,
-        staff: random.below(range.staff) as u32 + 1,
+        colleague: random.below(range.staff) as u32 + 1,
         post: random.below(range.posts) as u32 + 1,
         new_password: random.below(range.passwords) as u64,
     }
@@ -142,31 +141,31 @@ fn any_parts(random: &mut Random, range: &Range) -> Parts {
 pub fn likely_message(random: &mut Random, state: &State, range: &Range) -> Vec<u8> {
     let any = any_parts(random, range);
     if state.users.is_empty() {
-        return message(random, &Parts { kind: 0x0101, ..any }, 0);
+        return frame(random, &Parts { kind: 0x0101, ..any });
     }
     let kind = likely_kind(random);
     let users: Vec<u32> = state.users.iter().map(|u| u.number).collect();
-    let mut sender = users[random.below(users.len())];
+    let mut user = users[random.below(users.len())];
     if matches!(kind, 0x0202 | 0x0502 | 0x0601) && !random.once_in(8) {
-        sender = users[0];
+        user = users[0];
     }
     if kind == 0x0201 {
-        sender = any.sender;
+        user = any.user;
     }
     // now and then a wrong password, which differs in one bit
-    let password = match state.user(sender) {
-        Some(user) if random.once_in(40) => user.password ^ 1 << random.below(64),
-        Some(user) => user.password,
+    let password = match state.user(user) {
+        Some(known) if random.once_in(40) => known.password ^ 1 << random.below(64),
+        Some(known) => known.password,
         None => any.password,
     };
-    let staff: Vec<u32> = match kind {
+    let colleagues: Vec<u32> = match kind {
         0x0202 | 0x0502 => state.pending.iter().map(|p| p.number).collect(),
-        0x0205 | 0x0509 => users.into_iter().filter(|&v| state.has_requested(v, sender)).collect(),
-        0x050a => users.into_iter().filter(|&v| state.has_requested(sender, v)).collect(),
-        0x0301 | 0x0606 => users.into_iter().filter(|&v| state.are_friends(sender, v)).collect(),
+        0x0205 | 0x0509 => users.into_iter().filter(|&v| state.has_requested(v, user)).collect(),
+        0x050a => users.into_iter().filter(|&v| state.has_requested(user, v)).collect(),
+        0x0301 | 0x0606 => users.into_iter().filter(|&v| state.are_friends(user, v)).collect(),
         _ => users,
     };
-    let owned = |post: &&Post| post.owner == sender;
+    let owned = |post: &&Post| post.owner == user;
     let posts: Vec<u32> = match kind {
         0x0203 => Vec::new(),
         0x0402..=0x0405 => state.posts.iter().filter(owned).map(|p| p.number).collect(),
@@ -174,13 +173,13 @@ pub fn likely_message(random: &mut Random, state: &State, range: &Range) -> Vec<
     };
     let parts = Parts {
         kind,
-        sender,
+        user,
         password,
-        staff: random.pick(&staff).unwrap_or(any.staff),
+        colleague: random.pick(&colleagues).unwrap_or(any.colleague),
         post: random.pick(&posts).unwrap_or(any.post),
         new_password: any.new_password,
     };
-    message(random, &parts, 0)
+    frame(random, &parts)
 }
 
 /// Kinds that fill the board come more often than those that read it.
@@ -191,31 +190,55 @@ fn likely_kind(random: &mut Random) -> u16 {
     [0x0201, 0x0202, 0x0203, 0x0204, 0x0205, 0x0403][random.below(6)]
 }
 
-/// The frame of the parts; with an excess visibility is above 1, and every other string so many bytes over its limit.
-fn message(random: &mut Random, parts: &Parts, excess: usize) -> Vec<u8> {
-    let mut body = parts.sender.to_le_bytes().to_vec();
-    if parts.kind != 0x0201 {
-        body.extend(parts.password.to_le_bytes());
+/// The frame of the parts, with random strings.
+fn frame(random: &mut Random, parts: &Parts) -> Vec<u8> {
+    let mut strings = string_limits(parts.kind).into_iter().map(|limit| random.string(limit));
+    let strings = [(); 2].map(|()| strings.next().unwrap_or_default());
+    carried(&message(random, parts, [&strings[0], &strings[1]]))
+}
+
+/// The frame of a message that one carries.
+pub fn carried(message: &Message) -> Vec<u8> {
+    message
+        .to_vec()
+        .unwrap_or_else(|refusal| panic!("{message:?}: {refusal}"))
+}
+
+/// The message of the parts, with these strings as far as its kind has any.
+#[rustfmt::skip] // a line for each kind
+pub fn message<'a>(random: &mut Random, parts: &Parts, [string, other]: [&'a [u8]; 2]) -> Message<'a> {
+    let Parts { kind, user, password, colleague, post, new_password } = *parts;
+    match kind {
+        0x0101 => Message::StartSys { user, password },
+        0x0201 => Message::CNUReq { user, note: string },
+        0x0202 => Message::CUser { user, password, colleague, new_password },
+        0x0203 => Message::CPost { user, password, post, title: string },
+        0x0204 => Message::CFriendReq { user, password, colleague, note: string },
+        0x0205 => Message::CFriend { user, password, colleague },
+        0x0301 => Message::DFriend { user, password, colleague },
+        0x0401 => Message::UUser { user, password, new_password, name: string, info: other },
+        0x0402 => Message::UTitlePost { user, password, post, title: string },
+        0x0403 => Message::UTextPost { user, password, post, text: string },
+        0x0404 => Message::UImgPost { user, password, post, picture: random.next() as u32 },
+        0x0405 => Message::UVisPost { user, password, post, visibility: random.below(2) as u8 },
+        0x0501 => Message::RUser { user, password, colleague },
+        0x0502 => Message::RNUReq { user, password, colleague },
+        0x0503 => Message::RAmIAdmin { user, password },
+        0x0504 => Message::RTitlePost { user, password, post },
+        0x0505 => Message::RTextPost { user, password, post },
+        0x0506 => Message::RImgPost { user, password, post },
+        0x0507 => Message::RVisPost { user, password, post },
+        0x0508 => Message::ROwnerPost { user, password, post },
+        0x0509 => Message::RFriendReqToMe { user, password, colleague },
+        0x050a => Message::RFriendReqFromMe { user, password, colleague },
+        0x0601 => Message::LPendingUReqs { user, password },
+        0x0602 => Message::LAllUsers { user, password },
+        0x0603 => Message::LAllPosts { user, password },
+        0x0604 => Message::LFriendReqs { user, password },
+        0x0605 => Message::LFriends { user, password },
+        0x0606 => Message::LFriendsOf { user, password, colleague },
+        _ => panic!("{kind:04x} is no kind"),
     }
-    for field in fields(parts.kind) {
-        match *field {
-            Field::Staff => body.extend(parts.staff.to_le_bytes()),
-            Field::Post => body.extend(parts.post.to_le_bytes()),
-            Field::Password => body.extend(parts.new_password.to_le_bytes()),
-            Field::Picture => body.extend((random.next() as u32).to_le_bytes()),
-            Field::Visibility => body.push((random.below(2) + 2 * excess) as u8),
-            Field::String(limit) => {
-                let string = if excess > 0 && random.once_in(2) {
-                    random.bytes(limit + excess)
-                } else {
-                    random.string(limit)
-                };
-                body.extend((string.len() as u16).to_le_bytes());
-                body.extend(string);
-            }
-        }
-    }
-    frame(parts.kind, &body)
 }
 
 /// A message damaged in one of many ways; now and then it is still a good one.

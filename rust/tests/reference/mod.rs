@@ -733,6 +733,113 @@ fn query(kind: u16, r: &mut Reader) -> Option<Query> {
     })
 }
 
+// ---- messages as values
+
+/// A field of a message. A number is one value, a string two: its start and its length.
+#[derive(Clone, Copy, Debug, PartialEq, Eq)]
+pub enum Field {
+    /// A staff or post number.
+    Id,
+    Password,
+    Picture,
+    Visibility,
+    /// With its limit.
+    String(usize),
+}
+
+/// The fields of a kind of document 01, in their order.
+pub fn fields(kind: u16) -> Option<&'static [Field]> {
+    use Field::*;
+    Some(match kind {
+        0x0101 | 0x0503 | 0x0601..=0x0605 => &[Id, Password],
+        0x0201 => &[Id, String(NOTE)],
+        0x0202 => &[Id, Password, Id, Password],
+        0x0203 | 0x0402 => &[Id, Password, Id, String(TITLE)],
+        0x0204 => &[Id, Password, Id, String(NOTE)],
+        0x0205 | 0x0301 | 0x0501 | 0x0502 | 0x0504..=0x050a | 0x0606 => &[Id, Password, Id],
+        0x0401 => &[Id, Password, Password, String(NAME), String(INFO)],
+        0x0403 => &[Id, Password, Id, String(TEXT)],
+        0x0404 => &[Id, Password, Id, Picture],
+        0x0405 => &[Id, Password, Id, Visibility],
+        _ => return None,
+    })
+}
+
+/// The frame that carries a message, if one does.
+fn carried(kind: u32, values: &[u64], lent: &[u8]) -> Option<Vec<u8>> {
+    let kind = u16::try_from(kind).ok()?;
+    let mut values = values.iter().copied();
+    let mut body = Vec::new();
+    for field in fields(kind)? {
+        let value = values.next()?;
+        match *field {
+            Field::Id => body.extend(u32::try_from(value).ok().filter(|&n| n != 0)?.to_le_bytes()),
+            Field::Password => body.extend(value.to_le_bytes()),
+            Field::Picture => body.extend(u32::try_from(value).ok()?.to_le_bytes()),
+            Field::Visibility => body.push(u8::try_from(value).ok().filter(|&v| v <= 1)?),
+            Field::String(limit) => {
+                let (start, length) = (usize::try_from(value).ok()?, usize::try_from(values.next()?).ok()?);
+                let string = lent.get(start..start.checked_add(length)?)?;
+                if length > limit {
+                    return None;
+                }
+                put_string(&mut body, string);
+            }
+        }
+    }
+    values.next().is_none().then(|| frame(kind, &body))
+}
+
+/// A message into a buffer: the number and the bytes written.
+pub fn write(kind: u32, values: &[u64], lent: &[u8], out: &mut [u8]) -> (Number, usize) {
+    let Some(frame) = carried(kind, values, lent) else {
+        return (5, 0);
+    };
+    if out.len() < frame.len() {
+        return (13, 0);
+    }
+    out[..frame.len()].copy_from_slice(&frame);
+    (0, frame.len())
+}
+
+/// The values of a message into a slice of them: the number and the count of values written.
+pub fn read(message: &[u8], out: &mut [u64]) -> (Number, usize) {
+    let values = match values_of(message) {
+        Ok(values) => values,
+        Err(number) => return (number, 0),
+    };
+    if out.len() < values.len() {
+        return (13, 0);
+    }
+    out[..values.len()].copy_from_slice(&values);
+    (0, values.len())
+}
+
+fn values_of(message: &[u8]) -> Result<Vec<u64>, Number> {
+    let (kind, body) = split(message)?;
+    decode(kind, body)?;
+    values_in(kind, body).ok_or(5)
+}
+
+/// Of a body that fits the fields of its kind.
+fn values_in(kind: u16, body: &[u8]) -> Option<Vec<u64>> {
+    let mut r = Reader { rest: body };
+    let mut values = Vec::new();
+    for field in fields(kind)? {
+        match *field {
+            Field::Id | Field::Picture => values.push(r.u32()?.into()),
+            Field::Password => values.push(r.u64()?),
+            Field::Visibility => values.push(r.u8()?.into()),
+            Field::String(limit) => {
+                let string = r.string(limit)?;
+                let start = body.len() - r.rest.len() - string.len();
+                values.extend([start as u64, string.len() as u64]);
+            }
+        }
+    }
+    Some(values)
+}
+
 // ---- on bytes
 
 /// The answer's frame for what `State::step` gave, with its number.

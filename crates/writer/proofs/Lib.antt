@@ -1,0 +1,13 @@
+pub mod BodyLaws
+pub mod CarryLaws
+pub mod EncodingLaws
+pub mod EnumLaws
+pub mod Examples
+pub mod LimitTheorems
+pub mod ReadLaws
+pub mod ReasonTheorems
+pub mod RoundTripTheorems
+pub mod SizeLaws
+pub mod ValueLaws
+pub mod WordLaws
+pub mod WriteLaws

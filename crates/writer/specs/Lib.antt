@@ -1,0 +1,5 @@
+pub mod Encoding
+pub mod Words
+pub mod Reasons
+pub mod RoundTrips
+pub mod Table
