@@ -4,7 +4,7 @@ use native.Mathlib.Omega.{arith}
 use mathlib.Core.Path.{_≡_, refl, ap, ap₂, _∙_}
 use mathlib.Core.List.{List, [], _∷_, _++_}
 use mathlib.Core.Bool.{true, false}
-use lib.ListN.{length, take, length-take, length-append}
+use lib.ListN.{length, length-append}
 use lib.Seq.{drop-at}
 use borrow.Author.Tests.{le-leb}
 use Rattle.layout.proofs.ByteLaws.{length-bytesAt}
@@ -16,9 +16,6 @@ use Rattle.reader.proofs.MessageTheorems.{AcceptedFrame, accepted-frame, span-n
 use Rattle.writer.specs.Encoding.{result, putWhole}
 use Rattle.writer.specs.Words.{wordCount, wordValue, wordValues, listedFields, wordContent, valueWords, valuesWords, readOf}
 use Rattle.writer.proofs.SizeLaws.{total}
-
-pub length-prefix : (n : ℕ) (ws : List ℕ) → n ≤ length ws → length (take n ws) ≡ n
-length-prefix n ws h = length-take n ws ∙ omega arith
 
 -- ---- the words of fields that fit, taken over the bytes that the fields stand in, are their values again
 

@@ -1,9 +1,9 @@
 -- `encode` meets its contract: the words of the message say it, and `write` writes what they say.
 use mathlib.Core.Path.{sym, ap, _∙_}
+use lib.Seq.{length-take-le}
 use borrow.Author.Needs.{needs}
 use Rattle.reader.specs.Messages.{Content}
 use Rattle.writer.specs.Encoding.{encodeOf}
-use Rattle.writer.proofs.WordLaws.{length-prefix}
 use Rattle.writer.proofs.encode.Statement.{statement}
 use Rattle.writer.proofs.encode.Tie as tie
 
@@ -11,7 +11,7 @@ array-share-prefix-words : tie.Need-array-share-prefix-words
 array-share-prefix-words c = c .before .values-of .ensures .0
 
 slice-aggregate-write : tie.Need-slice-aggregate-write
-slice-aggregate-write c = sym (length-prefix _ _ (c .before .before .values-of .ensures .0))
+slice-aggregate-write c = sym (length-take-le _ _ (c .before .before .values-of .ensures .0))
 
 returns : tie.Need-returns
 returns c =
