@@ -206,10 +206,8 @@ static enum number accept_friend(struct board *b, int sender, const struct messa
     if (v == NOWHERE || !has_bit(b->users[sender].requests, v)) {
         return NOT_FOUND;
     }
-    if (has_bit(b->users[sender].friends, v)) {
-        return ALREADY_THERE;
-    }
     b->users[sender].requests &= ~(1u << v);
+    b->users[v].requests &= ~(1u << sender);
     b->users[sender].friends |= 1u << v;
     b->users[v].friends |= 1u << sender;
     return ACCEPTED;

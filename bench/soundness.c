@@ -51,16 +51,17 @@ struct rows {
     uint32_t friends[32], requests[32];
 };
 
-/* Each pair is friends, and each user has requested each other, with probability 1 / rarity; a request has its note. */
+/* Two slots with an even sum are friends, and each of two others has requested the other, with probability 1 / rarity; a request has its note. */
 static struct rows make_rows(uint8_t *b, int n, uint32_t rarity) {
     struct rows rows = {{0}, {0}};
     for (int i = 0; i < n; i++) {
         for (int j = 0; j < n; j++) {
-            if (j < i && random_below(rarity) == 0) {
+            bool may_be_friends = (i + j) % 2 == 0;
+            if (may_be_friends && j < i && random_below(rarity) == 0) {
                 rows.friends[i] |= 1u << j;
                 rows.friends[j] |= 1u << i;
             }
-            if (j != i && random_below(rarity) == 0) {
+            if (!may_be_friends && random_below(rarity) == 0) {
                 rows.requests[i] |= 1u << j;
                 put_string(b + NOTES + 26 * (32 * i + j), 24);
             }

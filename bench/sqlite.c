@@ -22,7 +22,7 @@ static const char schema[] =
 
 enum query {
     BEGIN, COMMIT, FIND_USER, FIND_PENDING, FIND_POST, FIND_FRIEND, FIND_REQUEST, COUNT_USERS, COUNT_POSTS, COUNT_PENDING,
-    ADD_USER, ADD_PENDING, DROP_PENDING, ADD_POST, ADD_REQUEST, DROP_REQUEST, ADD_FRIENDS, DROP_FRIEND,
+    ADD_USER, ADD_PENDING, DROP_PENDING, ADD_POST, ADD_REQUEST, DROP_REQUESTS, ADD_FRIENDS, DROP_FRIEND,
     UPDATE_PROFILE, UPDATE_TITLE, UPDATE_TEXT, UPDATE_PICTURE, UPDATE_VISIBILITY,
     PROFILE, PENDING_NOTE, TITLE_OF, TEXT_OF, PICTURE_OF, VISIBILITY_OF, OWNER_OF, NOTE_TO, NOTE_FROM,
     ALL_PENDING, ALL_USERS, ALL_POSTS, REQUESTS_TO, FRIENDS_OF, QUERIES
@@ -50,7 +50,7 @@ static const char *const texts[QUERIES] = {
     [DROP_PENDING] = "DELETE FROM pending WHERE number = ?1",
     [ADD_POST] = "INSERT INTO posts (number, owner, title) VALUES (?1, ?2, ?3)",
     [ADD_REQUEST] = "INSERT INTO requests (receiver, sender, note) VALUES (?1, ?2, ?3)",
-    [DROP_REQUEST] = "DELETE FROM requests WHERE receiver = ?1 AND sender = ?2",
+    [DROP_REQUESTS] = "DELETE FROM requests WHERE receiver = ?1 AND sender = ?2 OR receiver = ?2 AND sender = ?1",
     [ADD_FRIENDS] = "INSERT INTO friends (user, friend) VALUES (?1, ?2), (?2, ?1)",
     [DROP_FRIEND] = "DELETE FROM friends WHERE user = ?1 AND friend = ?2",
     [UPDATE_PROFILE] = "UPDATE users SET password = ?2, name = ?3, info = ?4 WHERE id = ?1",
@@ -257,10 +257,7 @@ static enum number accept_friend(struct board *b, int64_t sender, const struct m
     if (v == 0 || !exists(b, FIND_REQUEST, sender, v)) {
         return NOT_FOUND;
     }
-    if (exists(b, FIND_FRIEND, sender, v)) {
-        return ALREADY_THERE;
-    }
-    run(b, bind(b, DROP_REQUEST, sender, v));
+    run(b, bind(b, DROP_REQUESTS, sender, v));
     run(b, bind(b, ADD_FRIENDS, sender, v));
     return ACCEPTED;
 }

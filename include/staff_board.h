@@ -1,5 +1,5 @@
 /* The staff board kernel, for C and C++. Link target/staticlib/libabi.a, which `rt staticlib abi` writes; it is for x86-64 Linux. Messages, answers,
-   boards and the numbers that are returned are those of document 01, docs/papers/01-scope.md.
+   boards and the numbers that are returned are those of document 01, docs/papers/01-scope.md, with the changes of document 02 that docs/changes describes.
 
    Who owns what: every buffer is the caller's. A call reads and writes the bytes that it is lent, keeps no address after it has returned, and
    allocates nothing.

@@ -63,7 +63,14 @@ fn longest(limit: usize) -> Vec<u8> {
     vec![b'a'; limit]
 }
 
-/// 32 users, all friends, all requests with their notes, 64 posts, 16 pending, every string as long as its limit.
+/// The pairs of different users up to this number, each in both orders.
+fn pairs(users: u32) -> impl Iterator<Item = (u32, u32)> {
+    (1..=users)
+        .flat_map(move |a| (1..=users).map(move |b| (a, b)))
+        .filter(|(a, b)| a != b)
+}
+
+/// 32 users, half of the pairs friends and half with requests both ways and their notes, 64 posts, 16 pending, every string as long as its limit.
 fn full() -> State {
     let mut state = State::default();
     for i in 1..=32 {
@@ -90,9 +97,10 @@ fn full() -> State {
             note: longest(24),
         });
     }
-    for a in 1..=32 {
-        for b in (1..=32).filter(|&b| b != a) {
+    for (a, b) in pairs(32) {
+        if (a + b) % 2 == 0 {
             state.friends.insert((a, b));
+        } else {
             state.requests.insert((a, b), longest(24));
         }
     }
@@ -107,7 +115,7 @@ fn sparse() -> State {
     state.posts.truncate(10);
     state.pending.clear();
     state.friends.retain(|&(a, b)| a <= 5 && b <= 5 && (a + b) % 3 == 0);
-    state.requests.retain(|&(a, b), _| a <= 5 && b <= 5 && (a + b) % 4 == 0);
+    state.requests.retain(|&(a, b), _| a <= 5 && b <= 5 && (a + b) % 3 == 0);
     state
 }
 
@@ -213,7 +221,7 @@ fn main() {
     steps("empty board, 0201 (refused with 6)", &State::default(), &ask, 6);
     steps("sparse board (5 users, 10 posts), 0505", &sparse, &read, 0);
     steps("sparse board, 0403", &sparse, &update, 0);
-    let name = "full board (32 users, 64 posts, 16 pending, every note), 0505";
+    let name = "full board (32 users, 64 posts, 16 pending, all pairs friends or with requests), 0505";
     steps(name, &full, &read, 0);
     steps("full board, 0403", &full, &update, 0);
     let random = any_state(&mut Random::new(1));

@@ -1,7 +1,7 @@
 //! The staff board kernel, from Rust.
 //!
 //! The kernel is proved; this crate only hands it slices. [`step`] and [`replay`] take slices of any length and contents and answer as document 01
-//! (`docs/papers/01-scope.md`) says, [`Message`] is a message by its fields, [`Board`] keeps a board that is sound. Nothing here allocates but [`Board`]
+//! (`docs/papers/01-scope.md`) says, with the changes of document 02 that `docs/changes` describes, [`Message`] is a message by its fields, [`Board`] keeps a board that is sound. Nothing here allocates but [`Board`]
 //! and [`Message::to_vec`], and nothing is shared between threads: each call works on the slices that it is lent and on nothing else.
 //!
 //! ```
@@ -30,7 +30,7 @@ pub const BOARD_SIZE: usize = 50_448;
 /// The bytes of the largest answer. A shorter buffer is refused.
 pub const ANSWER_LIMIT: usize = 518;
 
-/// Why a message was refused, with the numbers and words of document 01: U is the sender, P the password, V another member.
+/// Why a message was refused, with the numbers and words of document 01 and its changes: U is the sender, P the password, V another member.
 #[derive(Clone, Copy, Debug, PartialEq, Eq, Hash)]
 #[repr(u16)]
 pub enum Refusal {
@@ -54,7 +54,7 @@ pub enum Refusal {
     Missing = 9,
     /// 0402 to 0405: not the owner; 0504 to 0507, 0606: not entitled
     Right = 10,
-    /// 0201: registered or pending; 0203: post number used; 0204: V is U, already friends, or U's request is pending; 0205: already friends
+    /// 0201: registered or pending; 0203: post number used; 0204: V is U, already friends, or U's request is pending
     Already = 11,
     /// 0201 with 16 pending, 0202 with 32 users, 0203 with 64 posts
     Full = 12,
@@ -88,7 +88,7 @@ impl Refusal {
     }
 }
 
-/// The words of document 01's table.
+/// The words of document 01's table, as changed.
 impl fmt::Display for Refusal {
     fn fmt(&self, f: &mut fmt::Formatter<'_>) -> fmt::Result {
         f.write_str(match self {
@@ -107,7 +107,7 @@ impl fmt::Display for Refusal {
             Refusal::Right => "0402 to 0405: not the owner; 0504 to 0507, 0606: not entitled",
             Refusal::Already => concat!(
                 "0201: registered or pending; 0203: post number used; ",
-                "0204: V is U, already friends, or U's request is pending; 0205: already friends"
+                "0204: V is U, already friends, or U's request is pending"
             ),
             Refusal::Full => "0201 with 16 pending, 0202 with 32 users, 0203 with 64 posts",
         })

@@ -1,12 +1,13 @@
-//! The kernel beside an implementation of document 01 in plain Rust (`reference`), on random journals, damaged frames, damaged boards, boards that no
-//! journal leads to, buffers of every length around 518, and whole replays. Number, counts, board and buffer must be the same, byte for byte. The seeds
-//! are fixed.
+//! The kernel beside an implementation of documents 01 and 02 in plain Rust (`reference`), on random journals, damaged frames, random sound boards,
+//! damaged boards, boards with a request between friends, buffers of every length around 518, and whole replays. Number, counts, board and buffer must
+//! be the same, byte for byte. The seeds are fixed.
 //!
-//! The tests find differences: `faults_are_found` runs them with five faulty copies of the kernel. Fifteen faults that were put into `reference` were each
-//! found too: 0301 that ends the friendship on one side, an admin who reads every post, 0205 that leaves the request, a 17th pending registration, a
-//! string of just its limit refused, a byte more than the limit allowed in a title, a note, a name and an info, visibility 2 allowed in a message and on
-//! a board, passwords compared in their low halves, the buffer tested before the board, a board of a byte more that is sound, and L of 277. So was a
-//! wrapper that asks for room for two answers before it goes on.
+//! The tests find differences: `faults_are_found` runs them with five faulty copies of the kernel. Seventeen faults that were put into `reference` were
+//! each found too: 0301 that ends the friendship on one side, an admin who reads every post, 0205 that leaves the request, 0205 that leaves a request of
+//! its sender, a board that is sound with a request between friends, a 17th pending registration, a string of just its limit refused, a byte more than
+//! the limit allowed in a title, a note, a name and an info, visibility 2 allowed in a message and on a board, passwords compared in their low halves, the
+//! buffer tested before the board, a board of a byte more that is sound, and L of 277. So was a wrapper that asks for room for two answers before it goes
+//! on.
 
 mod generate;
 mod reference;
@@ -166,7 +167,7 @@ fn spoilt(random: &mut Random, mut message: Vec<u8>, range: &Range) -> Vec<u8> {
     message
 }
 
-/// Boards that no journal may lead to.
+/// Random sound boards, and messages on each.
 fn states(step: Step, random: &mut Random, count: usize, length: usize) -> Result<Numbers, String> {
     let mut numbers = Numbers::default();
     for _ in 0..count {
@@ -219,6 +220,23 @@ fn damaged_boards(
     Ok(numbers)
 }
 
+/// Boards on which one of two friends has requested the other.
+fn requested_friends(step: Step, random: &mut Random, count: usize) -> Result<Numbers, String> {
+    let mut numbers = Numbers::default();
+    while numbers.total() < count {
+        let mut state = any_state(random);
+        if state.friends.is_empty() {
+            continue;
+        }
+        let pair = random.below(state.friends.len());
+        let pair = *state.friends.iter().nth(pair).expect("a pair of friends");
+        state.requests.insert(pair, random.string(24));
+        let board = state.board();
+        numbers.add(damaged_board(step, random, &state, &board)?);
+    }
+    Ok(numbers)
+}
+
 /// A message that the state mostly accepts, on a board that may be another.
 fn damaged_board(step: Step, random: &mut Random, state: &State, board: &[u8]) -> Result<u16, String> {
     let message = likely_message(random, state, &WIDE);
@@ -256,7 +274,7 @@ fn used_state(random: &mut Random) -> State {
 }
 
 /// All of it, with how often each number was returned.
-fn all(step: Step, seed: u64) -> Result<[Numbers; 6], String> {
+fn all(step: Step, seed: u64) -> Result<[Numbers; 7], String> {
     let random = &mut Random::new(seed);
     let some: Vec<State> = (0..60).map(|_| any_state(random)).collect();
     let used = used_state(random);
@@ -267,6 +285,7 @@ fn all(step: Step, seed: u64) -> Result<[Numbers; 6], String> {
         buffers(step, random)?,
         damaged_boards(step, random, some.into_iter(), 97)?,
         damaged_boards(step, random, [used].into_iter(), 1)?,
+        requested_friends(step, random, 500)?,
     ])
 }
 
@@ -335,6 +354,8 @@ fn kernel_and_reference_agree() {
         let met: usize = numbers.iter().map(|n| n.0[number]).sum();
         assert!(met > 100, "{number} was returned {met} times");
     }
+    let [.., requested_friends] = numbers;
+    assert_eq!(requested_friends.0[1], requested_friends.total());
 }
 
 #[test]

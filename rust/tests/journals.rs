@@ -71,5 +71,5 @@ fn digests_are_those_known() {
         assert!(other_board == board && other_answers == answers, "{name}, reference");
         count += 1;
     }
-    assert_eq!(count, 13);
+    assert_eq!(count, 14);
 }

@@ -1,22 +1,25 @@
 -- The clauses about friend rows and request rows, read off the bytes: each is a test of the rows of each slot.
-use Prim.Native.Nat.{ℕ, _+_, _/_, _%_, _^_}
+use Prim.Native.Nat.{ℕ, _+_, _/_, _%_, _^_, min, _<_}
+use native.Mathlib.Nat.{lt-of-le-of-lt}
 use native.Mathlib.Numerals.{add-one}
 use native.Mathlib.Omega.{arith}
 use mathlib.Core.Path.{_≡_, refl, sym, ap, ap₂, _∙_}
 use mathlib.Core.List.{List}
-use mathlib.Core.Bool.{Bool, true, not, _&&_}
+use mathlib.Core.Bool.{Bool, true, not, _&&_, false≢true}
 use lib.ListN.{length}
-use lib.Dec.{eqb, ltb}
-use lib.Bits.{bitOr, bitXor, or-mod, xor-mod, xor-self, xor-add-and, and-le-l, and-le-r}
-use borrow.Author.Tests.{eqb-true, eq-eqb}
+use lib.Dec.{eqb, ltb, lit<}
+use lib.Bits.{bitAnd, bitOr, bitXor, or-mod, xor-mod, xor-self, xor-add-and, and-le-l, and-le-r}
+use borrow.Author.Tests.{eqb-true, eqb-false, eq-eqb}
+use borrow.Table.Steps.{cases}
 use Rattle.layout.specs.Bits.{bitAt, hasBit}
 use Rattle.layout.proofs.BooleanLaws.{tests-agree}
 use Rattle.layout.proofs.RunLaws.{or-zero}
-use Rattle.layout.proofs.BitLaws.{below-power}
+use Rattle.layout.proofs.BitLaws.{below-power, bit-lt, bit-beyond, bit-and, no-bits}
 use Rattle.model.specs.Lists.{forAll, allBelow}
-use Rattle.model.specs.State.{User, noUser, userAt}
+use Rattle.model.specs.State.{User, userLimit, noUser, userAt}
 use Rattle.model.specs.Board.{cutBoard, userCount, decode}
-use Rattle.model.specs.Soundness.{friendsSymmetric, noOwnBit, bitsBelowCount}
+use Rattle.model.specs.Soundness.{friendsSymmetric, noOwnBit, bitsBelowCount, friendsNotRequested}
+use Rattle.model.proofs.ListLaws.{below-at, below-by}
 use Rattle.model.proofs.BelowLaws.{below-same, half-of-pairs, all-below}
 use Rattle.board.specs.BoardTests.{BoardWithinLimits, friendRow, requestRow, symmetricAt}
 use Rattle.board.proofs.RecordPlaces.{count-users, friends-at, requests-at}
@@ -41,6 +44,35 @@ lowest-gathered d x y =
     ap (λ (r : ℕ). eqb r 0) (or-mod d (bitXor x y) 1) ∙ or-zero (d % 2) (bitXor x y % 2)
     ∙ ap (λ (t : Bool). eqb (d % 2) 0 && t) (ap (λ (r : ℕ). eqb r 0) (xor-mod x y 1) ∙ xor-zero (x % 2) (y % 2))
 
+-- `x & y` is 0 exactly if no bit is set in both
+pub and-zero : (x y : ℕ) → x < 2 ^ userLimit → eqb (bitAnd x y) 0 ≡ allBelow userLimit (λ (j : ℕ). not (hasBit x j && hasBit y j))
+unfolding hasBit
+and-zero x y h =
+    tests-agree (eqb (bitAnd x y) 0) (allBelow userLimit apart)
+    (λ e. below-by userLimit apart (λ j l.
+    not-both j (sym (bit-and x y j) ∙ ap (λ (z : ℕ). bitAt z j) (eqb-true (bitAnd x y) 0 e) ∙ bit-beyond 0 0 j (lit< tt) (omega arith))))
+    (λ e. eq-eqb (bitAnd x y) 0
+    (no-bits userLimit (bitAnd x y) (lt-of-le-of-lt (and-le-l x y) h) (λ j l. bit-and x y j ∙ least j (below-at userLimit apart e j l))))
+  where
+    apart : ℕ → Bool
+    apart j = not (eqb (bitAt x j) 1 && eqb (bitAt y j) 1)
+
+    not-both : (j : ℕ) → min (bitAt x j) (bitAt y j) ≡ 0 → apart j ≡ true
+    not-both j z =
+        cases (eqb (bitAt x j) 1) (λ p. cases (eqb (bitAt y j) 1)
+        (λ q. absurd (omega (arith, z, eqb-true (bitAt x j) 1 p, eqb-true (bitAt y j) 1 q)))
+        (λ q. ap not (ap₂ _&&_ p q)))
+        (λ p. ap (λ (t : Bool). not (t && eqb (bitAt y j) 1)) p)
+
+    least : (j : ℕ) → apart j ≡ true → min (bitAt x j) (bitAt y j) ≡ 0
+    least j e =
+        let u = bit-lt x j in
+        let v = bit-lt y j in
+        cases (eqb (bitAt x j) 1) (λ p. cases (eqb (bitAt y j) 1)
+        (λ q. absurd (false≢true (sym (ap not (ap₂ _&&_ p q)) ∙ e)))
+        (λ q. let n = eqb-false (bitAt y j) 1 q in omega arith))
+        (λ p. let n = eqb-false (bitAt x j) 1 p in omega arith)
+
 -- ---- symmetric rows
 
 -- a loop that gathers the bits that differ: bit j of row i and bit i of row j are the lowest of what is left of the rows
@@ -64,6 +96,10 @@ withoutOwnBit b i = not (hasBit (friendRow b i) i) && not (hasBit (requestRow b 
 
 abbrev pub withoutBitsFrom : List ℕ → ℕ → ℕ → Bool
 withoutBitsFrom b n i = eqb (friendRow b i / 2 ^ n) 0 && eqb (requestRow b i / 2 ^ n) 0
+
+-- no bit is set in both rows of slot i
+abbrev pub rowsApart : List ℕ → ℕ → Bool
+rowsApart b i = allBelow userLimit (λ (j : ℕ). not (hasBit (friendRow b i) j && hasBit (requestRow b i) j))
 
 module _ (b : List ℕ) (counted : BoardWithinLimits b) {n : ℕ} (e : n ≡ userCount (cutBoard b)) where
   -- half of the pairs are enough
@@ -105,3 +141,10 @@ module _ (b : List ℕ) (counted : BoardWithinLimits b) {n : ℕ} (e : n ≡ use
       ∙ all-below (below n) (decode b .users) noUser (userAt (decode b)) refl (λ i h. refl)
       ∙ each-slot (λ (i f r : ℕ). ltb f (2 ^ n) && ltb r (2 ^ n))
       ∙ (λ t. allBelow n (λ (i : ℕ). below-power (friendRow b i) n t && below-power (requestRow b i) n t))
+
+  pub apart-rows : friendsNotRequested (decode b) ≡ allBelow n (rowsApart b)
+  unfolding friendsNotRequested userAt
+  apart-rows =
+      let apart : ℕ → ℕ → Bool = λ f r. allBelow userLimit (λ (j : ℕ). not (hasBit f j && hasBit r j)) in
+      all-below (λ (u : User). apart (u .friends) (u .requests)) (decode b .users) noUser (userAt (decode b)) refl (λ i h. refl)
+      ∙ each-slot (λ (i f r : ℕ). apart f r)

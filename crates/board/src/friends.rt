@@ -6,7 +6,7 @@ ghost use lib.ListN.{length};
 ghost use Rattle.model.specs.Lists.{allBelow};
 ghost use Rattle.model.specs.State.{userLimit};
 ghost use Rattle.model.specs.Board.{boardSize, decode};
-ghost use Rattle.model.specs.Soundness.{friendsSymmetric, noOwnBit, bitsBelowCount};
+ghost use Rattle.model.specs.Soundness.{friendsSymmetric, noOwnBit, bitsBelowCount, friendsNotRequested};
 ghost use Rattle.board.specs.BoardTests.{BoardWithinLimits, friendRow, requestRow, symmetricAt};
 use crate::USER_FRIENDS;
 use crate::USER_REQUESTS;
@@ -102,9 +102,25 @@ fn bits_below_count(b: &[u8]) -> bool
     true
 }
 
+// "Friends with a request between them are no longer a sound board".
+fn friends_not_requested(b: &[u8]) -> bool
+    requires { ⌜ BoardWithinLimits (now b) ⌝ }
+    ensures { λ r. ⌜ r ≡ friendsNotRequested (decode (now (b .entry))) ⌝ }
+{
+    let n = user_count(b);
+    let mut i = 0;
+    while i < n {
+        if friend_row(b, i) & request_row(b, i) != 0 {
+            return false;
+        }
+        i += 1;
+    }
+    true
+}
+
 pub(crate) fn friends_sound(b: &[u8]) -> bool
     requires { ⌜ BoardWithinLimits (now b) ⌝ }
-    ensures { λ r. ⌜ r ≡ (friendsSymmetric (decode (now (b .entry))) && (noOwnBit (decode (now (b .entry))) && bitsBelowCount (decode (now (b .entry))))) ⌝ }
+    ensures { λ r. ⌜ r ≡ (friendsSymmetric (decode (now (b .entry))) && (noOwnBit (decode (now (b .entry))) && (bitsBelowCount (decode (now (b .entry))) && friendsNotRequested (decode (now (b .entry)))))) ⌝ }
 {
     if !friends_symmetric(b) {
         return false;
@@ -112,5 +128,8 @@ pub(crate) fn friends_sound(b: &[u8]) -> bool
     if !no_own_bit(b) {
         return false;
     }
-    bits_below_count(b)
+    if !bits_below_count(b) {
+        return false;
+    }
+    friends_not_requested(b)
 }

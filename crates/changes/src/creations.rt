@@ -11,8 +11,8 @@ ghost use Rattle.model.specs.Actions.{startSys, cNUReq, cUser, cPost, cFriendRe
 ghost use Rattle.model.proofs.ChangeWrites.{userAdded, pendingAdded, postAdded};
 ghost use Rattle.model.proofs.SoundnessTheorems.{SoundState};
 ghost use Rattle.changes.specs.ChangeResults.{changed, changeResult};
-use crate::rows::friends_at;
-use crate::rows::remove_request;
+use crate::rows::add_friends;
+use crate::rows::remove_requests;
 use crate::rows::requests_at;
 use crate::rows::set_row_bit;
 use access::lookups::are_friends;
@@ -188,7 +188,7 @@ pub fn request_friend(board: &mut [u8], login: Login, v: u32, note: &[u8]) -> u1
     0
 }
 
-// 0205: the request of v is removed with its note, and both become friends
+// 0205: the requests of both to each other are removed with their notes, and both become friends
 pub fn accept_request(board: &mut [u8], login: Login, v: u32) -> u16
     requires { ⌜ SoundState (now board) ⌝ }
     ensures { λ r. ⌜ changed r (now (board .exit)) ≡ changeResult (now (board .entry)) (cFriend (login .user) (login .password) v) ⌝ }
@@ -202,11 +202,7 @@ pub fn accept_request(board: &mut [u8], login: Login, v: u32) -> u16
     if !has_requested(board, i, j) {
         return 9;
     }
-    if are_friends(board, i, j) {
-        return 11;
-    }
-    remove_request(board, i, j);
-    set_row_bit(board, friends_at(i), j);
-    set_row_bit(board, friends_at(j), i);
+    remove_requests(board, i, j);
+    add_friends(board, i, j);
     0
 }

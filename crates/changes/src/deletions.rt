@@ -3,8 +3,7 @@ ghost use mathlib.Core.Path.{_≡_};
 ghost use Rattle.model.specs.Actions.{dFriend};
 ghost use Rattle.model.proofs.SoundnessTheorems.{SoundState};
 ghost use Rattle.changes.specs.ChangeResults.{changed, changeResult};
-use crate::rows::clear_row_bit;
-use crate::rows::friends_at;
+use crate::rows::remove_friends;
 use access::lookups::are_friends;
 use access::lookups::user_slot;
 use access::refusals::user_refusal;
@@ -24,7 +23,6 @@ pub fn end_friendship(board: &mut [u8], login: Login, v: u32) -> u16
     if !are_friends(board, i, j) {
         return 9;
     }
-    clear_row_bit(board, friends_at(i), j);
-    clear_row_bit(board, friends_at(j), i);
+    remove_friends(board, i, j);
     0
 }

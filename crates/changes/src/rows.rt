@@ -8,7 +8,7 @@ ghost use Rattle.layout.specs.Bits.{setBit, clearBit};
 ghost use Rattle.reader.specs.Fields.{numberIn};
 ghost use Rattle.model.specs.State.{userLimit};
 ghost use Rattle.model.specs.Board.{boardSize};
-ghost use Rattle.model.proofs.ChangeWrites.{requestRemoved};
+ghost use Rattle.model.proofs.ChangeWrites.{requestRemoved, requestsRemoved, friendsWritten};
 use access::records::note_at;
 use board::NOTE_SIZE;
 use board::USER_FRIENDS;
@@ -22,7 +22,7 @@ use layout::number::write_u32;
 use layout::run::zero_fill;
 
 // Where the friend row of slot i stands.
-pub(crate) fn friends_at(i: usize) -> usize
+fn friends_at(i: usize) -> usize
     requires { ⌜ i < userLimit ⌝ }
     ensures { λ r. ⌜ r ≡ 16 + i * 104 + 12 ⌝ }
 {
@@ -45,7 +45,7 @@ pub(crate) fn set_row_bit(b: &mut [u8], at: usize, j: usize)
     write_u32(b, at, set_bit(row, j));
 }
 
-pub(crate) fn clear_row_bit(b: &mut [u8], at: usize, j: usize)
+fn clear_row_bit(b: &mut [u8], at: usize, j: usize)
     requires { ⌜ at + 4 ≤ length (now b) ⌝ }
     ensures { λ _. ⌜ now (b .exit) ≡ patch (now (b .entry)) at (toLeBytes 4 (clearBit (numberIn (now (b .entry)) at 4) j)) ⌝ }
 {
@@ -54,10 +54,36 @@ pub(crate) fn clear_row_bit(b: &mut [u8], at: usize, j: usize)
 }
 
 // Slot j's request to slot i is removed, with its note.
-pub(crate) fn remove_request(b: &mut [u8], i: usize, j: usize)
+fn remove_request(b: &mut [u8], i: usize, j: usize)
     requires { ⌜ (i < userLimit) × (j < userLimit) × (length (now b) ≡ boardSize) ⌝ }
     ensures { λ _. ⌜ now (b .exit) ≡ requestRemoved (now (b .entry)) i j ⌝ }
 {
     clear_row_bit(b, requests_at(i), j);
     zero_fill(b, note_at(i, j), NOTE_SIZE);
+}
+
+// The requests of slots i and j to each other are removed, with their notes.
+pub(crate) fn remove_requests(b: &mut [u8], i: usize, j: usize)
+    requires { ⌜ (i < userLimit) × (j < userLimit) × (length (now b) ≡ boardSize) ⌝ }
+    ensures { λ _. ⌜ now (b .exit) ≡ requestsRemoved (now (b .entry)) i j ⌝ }
+{
+    remove_request(b, i, j);
+    remove_request(b, j, i);
+}
+
+// Slots i and j become friends, and cease to be, on both sides.
+pub(crate) fn add_friends(b: &mut [u8], i: usize, j: usize)
+    requires { ⌜ (i < userLimit) × (j < userLimit) × (length (now b) ≡ boardSize) ⌝ }
+    ensures { λ _. ⌜ now (b .exit) ≡ friendsWritten setBit (now (b .entry)) i j ⌝ }
+{
+    set_row_bit(b, friends_at(i), j);
+    set_row_bit(b, friends_at(j), i);
+}
+
+pub(crate) fn remove_friends(b: &mut [u8], i: usize, j: usize)
+    requires { ⌜ (i < userLimit) × (j < userLimit) × (length (now b) ≡ boardSize) ⌝ }
+    ensures { λ _. ⌜ now (b .exit) ≡ friendsWritten clearBit (now (b .entry)) i j ⌝ }
+{
+    clear_row_bit(b, friends_at(i), j);
+    clear_row_bit(b, friends_at(j), i);
 }

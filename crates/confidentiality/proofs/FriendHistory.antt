@@ -13,7 +13,7 @@ use lib.Dec.{eqb, leb}
 use borrow.Author.Tests.{eqb-true, eq-eqb, not-false}
 use Rattle.bytes.specs.Bytes.{indexOf}
 use Rattle.layout.specs.Bits.{bitAt, hasBit, setBit, clearBit}
-use Rattle.layout.proofs.BooleanLaws.{and-left, and-right, and-both, or-neither, apply-cond}
+use Rattle.layout.proofs.BooleanLaws.{and-left, and-right, and-both, or-neither}
 use Rattle.layout.proofs.BitLaws.{has-beyond}
 use Rattle.reader.specs.Fields.{FieldValue}
 use Rattle.reader.specs.Kinds.{kinds}
@@ -24,13 +24,13 @@ use Rattle.model.specs.StateUpdates.{withPassword, withFriends, withRequests, w
 use Rattle.model.specs.Lookups.{isRegistered, userSlot, userNumbered, areFriends, hasRequested}
 use Rattle.model.specs.Actions.{cFriendReq, cFriend, dFriend, uUser, Action, numberArg, stringArg, actionNamed}
 use Rattle.model.specs.Refusals.{firstCause, changeRefusals, afterLogin, userRows}
-use Rattle.model.specs.Changes.{updateUser, setNote, writeRequest, writeFriend, addUser, updatePost, addRequest, removeRequest, addFriends, removeFriends, acceptRequest, applyChange}
+use Rattle.model.specs.Changes.{updateUser, setNote, writeRequest, writeFriend, addUser, updatePost, addRequest, removeRequest, addFriends, removeFriends, removeRequests, acceptRequest, applyChange}
 use Rattle.model.specs.Step.{stepState}
 use Rattle.model.proofs.RecordTheorems.{userCodec}
 use Rattle.model.proofs.TableRecordLaws.{fits-count}
 use Rattle.model.proofs.ListLaws.{SamePlace, place-added, at-same-place, field-add}
 use Rattle.model.proofs.AcceptedLaws.{none-applies, slot-below, slot-test}
-use Rattle.model.proofs.RowInvariant.{BitWrite, set-writes, clear-writes, writeRow, bit-written, field-updated, field-kept, numbers-kept, request-numbers, friend-numbers, request-removed-kept}
+use Rattle.model.proofs.RowInvariant.{BitWrite, set-writes, clear-writes, field-kept, numbers-kept, bits-written, request-numbers, friend-numbers, request-removed-kept, requests-removed-numbers, requests-removed-kept}
 use Rattle.model.proofs.RuleLaws.{ValidState, rules-of}
 use Rattle.model.proofs.Invariant.{all-friends-below, all-requests-below}
 use Rattle.confidentiality.specs.Traces.{isAccepted}
@@ -41,10 +41,10 @@ use Rattle.confidentiality.proofs.HistoryLaws.{Occurs, occurs-now, occu
 use Rattle.confidentiality.proofs.KindCases.{ForKinds, _also_}
 use Rattle.confidentiality.proofs.AcceptedKinds.{AfterAccepted, after-change, queries, query-kind, by-accepted, after-step}
 
--- v has requested u: a 0204 of v to u, and no 0205 of u for v since
+-- v has requested u: a 0204 of v to u, and no 0205 between the two since
 unfoldable pub requested : ℕ → ℕ → History → Bool
 requested v u [] = false
-requested v u (m ∷ h) = cond (isFromTo 0x0204 v u m) true (cond (isFromTo 0x0205 u v m) false (requested v u h))
+requested v u (m ∷ h) = cond (isFromTo 0x0204 v u m) true (cond (isBetween 0x0205 u v m) false (requested v u h))
 
 -- ---- rows that stay, while users may be added
 
@@ -100,16 +100,11 @@ module _ (s : State) (valid : ValidState s) where
 
 -- ---- a bit written
 
--- in row i of the users at place j
-bits-written : {f : ℕ → ℕ → ℕ} {value : ℕ} → BitWrite f value → (s : State) (i j : ℕ) (g : User → User) (row : User → ℕ) → i < length (s .users)
-    → j < 32 → ((a : User) → row (g a) ≡ f (row a) j)
-    → (k m : ℕ) → hasBit (row (userAt (updateUser s i g) k)) m ≡ cond (eqb k i && eqb m j) (eqb value 1) (hasBit (row (userAt s k)) m)
-unfolding hasBit writeRow
-bits-written {value} w s i j g row hi hj e k m =
-    let old : ℕ = row (userAt s k) in
-    ap (λ (x : ℕ). eqb (bitAt x m) 1) (field-updated s i g row hi k ∙ ap (λ (x : ℕ). cond (eqb k i) x old) (e (userAt s k)))
-    ∙ ap (λ (x : ℕ). eqb x 1) (bit-written w (λ (l : ℕ). row (userAt s l)) i j hj k m)
-    ∙ apply-cond (λ (x : ℕ). eqb x 1) (eqb k i && eqb m j) value (bitAt old m)
+-- two tests that give the same value are one
+either : (p q x y : Bool) → cond q x (cond p x y) ≡ cond (p || q) x y
+either true true x y = refl
+either true false x y = refl
+either false q x y = refl
 
 module _ {f : ℕ → ℕ → ℕ} {value : ℕ} (w : BitWrite f value) (s : State) (valid : ValidState s) (u v : ℕ) (ru : isRegistered s u ≡ true)
     (rv : isRegistered s v ≡ true) where
@@ -155,11 +150,31 @@ module _ {f : ℕ → ℕ → ℕ} {value : ℕ} (w : BitWrite f value) (s : Sta
       ∙ ap₂ (λ (p q : Bool). cond (eqb v a && eqb u b) x (cond (p && q) x old)) (slot-test s u a ru) (slot-test s v b rv)
       ∙ ap (λ (p : Bool). cond p x (cond (eqb u a && eqb v b) x old)) (and-comm (eqb v a) (eqb u b))
       ∙ either (eqb u a && eqb v b) (eqb u b && eqb v a) x old
-    where
-      either : (p q x y : Bool) → cond q x (cond p x y) ≡ cond (p || q) x y
-      either true true x y = refl
-      either true false x y = refl
-      either false q x y = refl
+
+-- the requests of u and v to each other removed
+module _ (s : State) (valid : ValidState s) (u v : ℕ) (ru : isRegistered s u ≡ true) (rv : isRegistered s v ≡ true) where
+  -- the first of the two removed
+  abbrev once : State
+  once = removeRequest s (userSlot s u) (userSlot s v)
+
+  once-valid : ValidState once
+  once-valid = request-removed-kept s valid (userSlot s u) (userSlot s v) (slot-below s u ru) (slot-below s v rv)
+
+  removed-keep-friends : (a b : ℕ) → areFriends (removeRequests s (userSlot s u) (userSlot s v)) a b ≡ areFriends s a b
+  unfolding removeRequests removeRequest
+  removed-keep-friends a b =
+      requests-keep-friends once once-valid clearBit (userSlot s v) (userSlot s u) [] a b
+      ∙ requests-keep-friends s valid clearBit (userSlot s u) (userSlot s v) [] a b
+
+  requested-after-removal : (a b : ℕ) → hasRequested (removeRequests s (userSlot s u) (userSlot s v)) a b
+      ≡ cond (eqb u b && eqb v a || eqb u a && eqb v b) false (hasRequested s a b)
+  unfolding removeRequests removeRequest isRegistered userSlot userNumbers setNote
+  requested-after-removal a b =
+      let numbers : userNumbers once ≡ userNumbers s = request-numbers clearBit s (userSlot s u) (userSlot s v) in
+      ap (λ (ns : List ℕ). hasRequested (removeRequest once (indexOf v ns) (indexOf u ns)) a b) (sym numbers)
+      ∙ requests-written clear-writes once once-valid v u (ap (contains v) numbers ∙ rv) (ap (contains u) numbers ∙ ru) [] a b
+      ∙ ap₂ (λ (t x : Bool). cond t false x) (and-comm (eqb v b) (eqb u a)) (requests-written clear-writes s valid u v ru rv [] a b)
+      ∙ either (eqb u b && eqb v a) (eqb u a && eqb v b) false (hasRequested s a b)
 
 -- ---- what an accepted message does
 
@@ -167,7 +182,7 @@ module _ {f : ℕ → ℕ → ℕ} {value : ℕ} (w : BitWrite f value) (s : Sta
 record FriendEffect (c : Content) (s t : State) : Type 0 where
   friends-after : (a b : ℕ) → areFriends t a b ≡ cond (isBetween 0x0205 a b c) true (cond (isBetween 0x0301 a b c) false (areFriends s a b))
   requested-after : (v u : ℕ)
-      → hasRequested t v u ≡ cond (isFromTo 0x0204 v u c) true (cond (isFromTo 0x0205 u v c) false (hasRequested s v u))
+      → hasRequested t v u ≡ cond (isFromTo 0x0204 v u c) true (cond (isBetween 0x0205 u v c) false (hasRequested s v u))
   -- only a request is accepted
   request-before : isKind 0x0205 c ≡ true → hasRequested s (targetField c) (userField c) ≡ true
 
@@ -231,23 +246,22 @@ module _ (s : State) (valid : ValidState s) where
 
     accept-effect : (p : ℕ) → firstCause (changeRefusals s (cFriend user p target)) ≡ none
         → FriendEffect (content 0x0205 vs) s (applyChange s (cFriend user p target))
-    unfolding changeRefusals userRows afterLogin applyChange acceptRequest addFriends removeRequest isBetween isFromTo isKind isRegistered userSlot userNumbers setNote
+    unfolding changeRefusals userRows afterLogin applyChange acceptRequest addFriends isBetween isFromTo isKind isRegistered userSlot
     accept-effect p e =
         let passes = none-applies (changeRefusals s (cFriend user p target)) e in
         let ru = not-false (isRegistered s user) (passes 0) in
         let rv = not-false (isRegistered s target) (passes 2) in
         let i : ℕ = userSlot s user in
         let j : ℕ = userSlot s target in
-        let s₁ : State = removeRequest s i j in
-        let valid₁ : ValidState s₁ = request-removed-kept s valid i j (slot-below s user ru) (slot-below s target rv) in
-        let numbers : userNumbers s₁ ≡ userNumbers s = request-numbers clearBit s i j in
+        let t : State = removeRequests s i j in
+        let kept = requests-removed-kept s valid i j (slot-below s user ru) (slot-below s target rv) in
+        let numbers : userNumbers t ≡ userNumbers s = requests-removed-numbers s i j in
         record {
           friends-after = λ a b.
-              ap (λ (ns : List ℕ). areFriends (addFriends s₁ (indexOf user ns) (indexOf target ns)) a b) (sym numbers)
-              ∙ friends-written set-writes s₁ valid₁ user target (ap (contains user) numbers ∙ ru) (ap (contains target) numbers ∙ rv) a b
-              ∙ ap (cond (eqb user a && eqb target b || eqb user b && eqb target a) true) (requests-keep-friends s valid clearBit i j [] a b);
-          requested-after = λ a b.
-              friends-keep-requests s₁ valid₁ setBit i j a b ∙ requests-written clear-writes s valid user target ru rv [] a b;
+              ap (λ (ns : List ℕ). areFriends (addFriends t (indexOf user ns) (indexOf target ns)) a b) (sym numbers)
+              ∙ friends-written set-writes t kept user target (ap (contains user) numbers ∙ ru) (ap (contains target) numbers ∙ rv) a b
+              ∙ ap (cond (eqb user a && eqb target b || eqb user b && eqb target a) true) (removed-keep-friends s valid user target ru rv a b);
+          requested-after = λ a b. friends-keep-requests t kept setBit i j a b ∙ requested-after-removal s valid user target ru rv a b;
           request-before = λ q. not-false (hasRequested s target user) (passes 3);
         }
 
@@ -313,7 +327,7 @@ agree-after c h s t effect agree = record {
       ap (λ (x : Bool). cond (isBetween 0x0205 a b c) true (cond (isBetween 0x0301 a b c) false x)) (agree .friends-same a b)
       ∙ sym (effect .friends-after a b);
   requested-same = λ v u.
-      ap (λ (x : Bool). cond (isFromTo 0x0204 v u c) true (cond (isFromTo 0x0205 u v c) false x)) (agree .requested-same v u)
+      ap (λ (x : Bool). cond (isFromTo 0x0204 v u c) true (cond (isBetween 0x0205 u v c) false x)) (agree .requested-same v u)
       ∙ sym (effect .requested-after v u);
 }
 
@@ -324,16 +338,16 @@ friends-agree-next m h s valid agree =
 
 -- ---- where a friendship comes from
 
--- a request that was not accepted since
+-- a request with no 0205 between the two since
 abbrev RequestTraced : ℕ → ℕ → History → Type 0
-RequestTraced v u h = Occurs (λ (m : Content). isFromTo 0x0204 v u m ≡ true) (λ (m : Content). not (isFromTo 0x0205 u v m)) h
+RequestTraced v u h = Occurs (λ (m : Content). isFromTo 0x0204 v u m ≡ true) (λ (m : Content). not (isBetween 0x0205 u v m)) h
 
 request-traced : (v u : ℕ) (h : History) → requested v u h ≡ true → RequestTraced v u h
 unfolding requested
 request-traced v u [] e = absurd (false≢true e)
-request-traced v u (m ∷ h) e = by-test (isFromTo 0x0204 v u m) refl (isFromTo 0x0205 u v m) refl e (request-traced v u h)
+request-traced v u (m ∷ h) e = by-test (isFromTo 0x0204 v u m) refl (isBetween 0x0205 u v m) refl e (request-traced v u h)
   where
-    by-test : (p : Bool) → isFromTo 0x0204 v u m ≡ p → (q : Bool) → isFromTo 0x0205 u v m ≡ q → cond p true (cond q false (requested v u h)) ≡ true
+    by-test : (p : Bool) → isFromTo 0x0204 v u m ≡ p → (q : Bool) → isBetween 0x0205 u v m ≡ q → cond p true (cond q false (requested v u h)) ≡ true
         → (requested v u h ≡ true → RequestTraced v u h) → RequestTraced v u (m ∷ h)
     by-test true i q k e later = occurs-now m i
     by-test false i true k e later = absurd (false≢true e)

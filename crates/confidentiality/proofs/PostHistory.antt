@@ -22,7 +22,7 @@ use Rattle.model.specs.StateUpdates.{withPosts, withPending, withPassword, with
 use Rattle.model.specs.Lookups.{isRegistered, isPost, userSlot, postPlace, pendingPlace, userNumbered, postNumbered, ownerOf, isOwner}
 use Rattle.model.specs.Actions.{Change, change, startSys, cNUReq, cUser, cPost, cFriendReq, cFriend, dFriend, uUser, uTitlePost, uTextPost, uImgPost, uVisPost, numberArg, stringArg, actionNamed}
 use Rattle.model.specs.Refusals.{rightOf, lacksRight, afterLogin, postRows, changeRefusals, firstCause}
-use Rattle.model.specs.Changes.{addUser, updateUser, updatePost, setNote, writeRequest, writeFriend, addRequest, removeRequest, addFriends, removeFriends, acceptRequest, applyChange}
+use Rattle.model.specs.Changes.{addUser, updateUser, updatePost, setNote, writeRequest, writeFriend, addRequest, removeRequest, addFriends, removeFriends, removeRequests, acceptRequest, applyChange}
 use Rattle.model.specs.Step.{stepState}
 use Rattle.model.proofs.ListLaws.{all-map, contains-cons, contains-append, contained-found, map-set}
 use Rattle.model.proofs.RuleLaws.{ValidState, rules-of}
@@ -326,7 +326,7 @@ module _ (s : State) (valid : ValidState s) where
   unchanged c ch o k = after-change (λ e. columns-kept s c (applyChange s ch) o k)
 
   kinds-recorded : ForKinds (AfterAccepted s (UsersAndPosts s)) kinds
-  unfolding kinds actionNamed applyChange isKind registered columns userNumbers postNumbers addRequest removeRequest setNote addFriends removeFriends acceptRequest updatePost
+  unfolding kinds actionNamed applyChange isKind registered columns userNumbers postNumbers addRequest removeRequest setNote addFriends removeFriends removeRequests acceptRequest updatePost
   kinds-recorded =
       first-user
       also (λ vs. unchanged (content 0x0201 vs) (cNUReq (numberArg vs 0) (stringArg vs 1)) refl refl)
@@ -339,7 +339,7 @@ module _ (s : State) (valid : ValidState s) where
       let i : ℕ = userSlot s (numberArg vs 0) in
       let j : ℕ = userSlot s (numberArg vs 2) in
       unchanged (content 0x0205 vs) (cFriend (numberArg vs 0) (numberArg vs 1) (numberArg vs 2)) refl
-      (friend-rows-kept setBit (removeRequest s i j) i j ∙ request-row-kept clearBit s i j))
+      (friend-rows-kept setBit (removeRequests s i j) i j ∙ request-row-kept clearBit (removeRequest s i j) j i ∙ request-row-kept clearBit s i j))
       also (λ vs.
       unchanged (content 0x0301 vs) (dFriend (numberArg vs 0) (numberArg vs 1) (numberArg vs 2)) refl
       (friend-rows-kept clearBit s (userSlot s (numberArg vs 0)) (userSlot s (numberArg vs 2))))

@@ -26,7 +26,7 @@ use Rattle.model.specs.Actions.{Cause, malformed, postNumberUsed, postsFull, po
 use Rattle.model.specs.Actions.{Change, startSys, cNUReq, cUser, cPost, cFriendReq, cFriend, dFriend, uUser, uTitlePost, uTextPost, uImgPost, uVisPost}
 use Rattle.model.specs.Actions.{Query, rUser, rNUReq, rAmIAdmin, rTitlePost, rTextPost, rImgPost, rVisPost, rOwnerPost, rFriendReqToMe, rFriendReqFromMe, lPendingUReqs, lAllUsers, lAllPosts, lFriendReqs, lFriends, lFriendsOf}
 use Rattle.model.specs.Refusals.{RefusalRow, Right, adminRight, ownerRight, readerRight, friendRight, noRight, rightOf, lacksRight, afterLogin, postRows, userRows, pendingRows, changeRefusals, queryRefusals, firstCause}
-use Rattle.model.specs.Changes.{addUser, updateUser, updatePost, setNote, addRequest, removeRequest, addFriends, removeFriends, acceptRequest, applyChange}
+use Rattle.model.specs.Changes.{addUser, updateUser, updatePost, setNote, addRequest, removeRequest, addFriends, removeFriends, removeRequests, acceptRequest, applyChange}
 use Rattle.model.specs.Answers.{countedList, staffList, postEntry, usersIn, answerBody}
 use Rattle.model.specs.Step.{Response, respond, stepAction}
 use Rattle.model.proofs.ListLaws.{index-injective, place-added, at-same-place, field-set, field-add}
@@ -300,7 +300,7 @@ module _ (n : ℕ) (s : State) where
 
 -- what an accepted change makes of the redacted state
 change-redacted : (n : ℕ) (s : State) (c : Change) → redact n (applyChange (redact n s) c) ≡ redact n (applyChange s c)
-unfolding applyChange addUser updateUser setNote addRequest removeRequest addFriends removeFriends acceptRequest redact updatePost postPlace postNumbered postNumbers postAt userSlot pendingPlace userNumbers pendingNumbers userAt
+unfolding applyChange addUser updateUser setNote addRequest removeRequest addFriends removeFriends removeRequests acceptRequest redact updatePost postPlace postNumbered postNumbers postAt userSlot pendingPlace userNumbers pendingNumbers userAt
 change-redacted n s (startSys u p) = redact-twice n (applyChange s (startSys u p))
 change-redacted n s (cNUReq u note) = redact-twice n (applyChange s (cNUReq u note))
 change-redacted n s (cUser u p v p2) = redact-twice n (applyChange s (cUser u p v p2))
@@ -389,7 +389,7 @@ text-updated n u p t s h =
 
 -- other changes leave it
 text-unchanged : (n : ℕ) (s : State) (c : Change) → updatesText n (change c) ≡ false → textOf n (applyChange s c) ≡ textOf n s
-unfolding applyChange updatesText addUser updateUser setNote addRequest removeRequest addFriends removeFriends acceptRequest textOf postNumbered postPlace postNumbers postAt
+unfolding applyChange updatesText addUser updateUser setNote addRequest removeRequest addFriends removeFriends removeRequests acceptRequest textOf postNumbered postPlace postNumbers postAt
 text-unchanged n s (startSys u p) e = refl
 text-unchanged n s (cNUReq u note) e = refl
 text-unchanged n s (cUser u p v p2) e = refl

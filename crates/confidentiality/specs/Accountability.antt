@@ -19,7 +19,8 @@ use Rattle.confidentiality.specs.History.{History, afterEvent, isKind, u
 unfoldable pub isFromTo : ℕ → ℕ → ℕ → Content → Bool
 isFromTo k u v m = isKind k m && (eqb (userField m) u && eqb (targetField m) v)
 
--- one of the two requested the friendship, later the other accepted this request, and neither has ended it since
+-- one of the two requested the friendship, later the other accepted this request, with no 0205 between the two in the meantime, and neither has
+-- ended it since
 pub record FriendshipTraced (a b : ℕ) (h : History) : Type 0 where
   pub requester : ℕ
   pub accepter : ℕ
@@ -32,7 +33,7 @@ pub record FriendshipTraced (a b : ℕ) (h : History) : Type 0 where
   pub these-two : ((requester ≡ a) × (accepter ≡ b)) ⊎ ((requester ≡ b) × (accepter ≡ a))
   pub is-request : isFromTo 0x0204 requester accepter request ≡ true
   pub is-acceptance : isFromTo 0x0205 accepter requester acceptance ≡ true
-  pub unanswered : forAll (λ (m : Content). not (isFromTo 0x0205 accepter requester m)) meanwhile ≡ true
+  pub unanswered : forAll (λ (m : Content). not (isBetween 0x0205 accepter requester m)) meanwhile ≡ true
   pub not-ended : forAll (λ (m : Content). not (isBetween 0x0301 a b m)) since ≡ true
 
 -- post n was made by u, whose later 0405 made it public, and there is no 0405 of it since

@@ -1,6 +1,6 @@
 -- Laws of rows of bits: what a shift leaves, a bit after another one was set or cleared, bounds, and the places of the set bits.
-use Prim.Native.Nat.{ℕ, zero, suc, _+_, _-_, _*_, _/_, _%_, _^_, max, _≤_, _<_}
-use native.Mathlib.Nat.{add-zero, add-mul, one-mul, zero-mul, sub-zero, sub-le, le-refl, lt-of-lt-of-le, max-zero, max-eq-right, mod-lt, mod-one, mod-eq-of-lt, div-eq-of-lt, div-lt-iff-lt-mul, div-self, mul-mod-left, add-mul-div-right, pow-suc, eq-or-lt-of-le, le-of-suc-le-suc}
+use Prim.Native.Nat.{ℕ, zero, suc, _+_, _-_, _*_, _/_, _%_, _^_, min, max, _≤_, _<_}
+use native.Mathlib.Nat.{add-zero, mul-comm, add-mul, one-mul, zero-mul, sub-zero, sub-le, le-refl, lt-of-lt-of-le, max-zero, max-eq-right, mod-lt, mod-one, mod-eq-of-lt, div-eq-of-lt, div-lt-iff-lt-mul, div-self, mul-mod-left, add-mul-div-right, pow-suc, eq-or-lt-of-le, le-of-suc-le-suc}
 use native.Mathlib.Numerals.{add-one, one-add}
 use native.Mathlib.Omega.{arith}
 use mathlib.Core.Path.{_≡_, refl, sym, ap, ap₂, _∙_, subst}
@@ -9,7 +9,7 @@ use mathlib.Core.Bool.{Bool, true, false, cond, true≢false}
 use mathlib.Core.List.{List, [], _∷_, _++_, map, map-append, append-nil, List·Memᴰ, List·Memᴰ·head, List·Memᴰ·not-nil, List·Memᴰ·append-cases, List·Memᴰ·eq-of-singleton, Memᴰ·append-left, Memᴰ·append-right}
 use lib.ListN.{length, length-append}
 use lib.Dec.{eqb, ltb, lit≤}
-use lib.Bits.{bitAnd, bitOr, and-high, or-shr, or-step, or-add-and, or-disjoint, or-lt, and-le-l}
+use lib.Bits.{bitAnd, bitOr, and-shr, and-step, and-high, or-shr, or-step, or-add-and, or-disjoint, or-lt, and-le-l}
 use lib.Count.{ones, ones-cat}
 use lib.Pow.{pow-pos, pow-mono, pow-lt, pow-add, high, ones-lt, ones-split, high-ones, mod-pow-add, shl-shr}
 use borrow.Table.Steps.{cases}
@@ -71,6 +71,24 @@ bit-or a b k = ap (λ (x : ℕ). x % 2) (or-shr a b k) ∙ lowest (a / 2 ^ k) (b
   where
     lowest : (x y : ℕ) → bitOr x y % 2 ≡ max (x % 2) (y % 2)
     lowest x y = let e = or-step x y in omega arith
+
+pub bit-and : (a b k : ℕ) → bitAt (bitAnd a b) k ≡ min (bitAt a k) (bitAt b k)
+unfolding bitAt
+bit-and a b k = ap (λ (x : ℕ). x % 2) (and-shr a b k) ∙ lowest (a / 2 ^ k) (b / 2 ^ k)
+  where
+    lowest : (x y : ℕ) → bitAnd x y % 2 ≡ min (x % 2) (y % 2)
+    lowest x y = let e = and-step x y in omega arith
+
+-- a row below 2 ^ n without a bit below n is 0
+pub no-bits : (n row : ℕ) → row < 2 ^ n → ((j : ℕ) → j < n → bitAt row j ≡ 0) → row ≡ 0
+unfolding bitAt
+no-bits zero row h e = omega arith
+no-bits (suc n) row h e =
+    let last : row / 2 ^ n % 2 ≡ 0 = e n (omega arith) in
+    let top : row / 2 ^ n < 2 = div-lt-iff-lt-mul (pow-pos n) .1 (rw (sym (pow-suc 2 n ∙ mul-comm (2 ^ n) 2)) h) in
+    let none : row / 2 ^ n ≡ 0 = omega arith in
+    let below : row < 1 * 2 ^ n = div-lt-iff-lt-mul (pow-pos n) .0 (omega arith) in
+    no-bits n row (omega arith) (λ j l. e j (omega arith))
 
 -- ---- set and clear, as the code does them: `row | 2 ^ j` and `row - (row & 2 ^ j)`
 

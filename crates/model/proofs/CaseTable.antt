@@ -269,15 +269,19 @@ regressionCases =
     ∷ numberIs posted (targetString 0x0402 8 2 51 []) 9
     ∷ numberIs posted (target 0x0606 8 5 99) 7
     ∷ numberIs posted (target 0x0606 8 2 99) 9
-    -- 9 before 11: 0204 to nobody; 0205 between friends with no request, and 11 with a request left over, whose note is still there
+    -- 9: 0204 to nobody; 0205 between friends
     ∷ numberIs staff (targetString 0x0204 8 2 99 []) 9
     ∷ numberIs befriended (target 0x0205 8 2 9) 9
-    ∷ numberIs crossedRequests (target 0x0205 8 2 9) 11
-    ∷ answerIs crossedRequests (target 0x0509 8 2 9) 0 (5 ∷ 0 ∷ 0 ∷ 0 ∷ 1 ∷ 0 ∷ 98 ∷ [])
-    ∷ answerIs crossedRequests (target 0x050a 9 3 8) 0 (5 ∷ 0 ∷ 0 ∷ 0 ∷ 1 ∷ 0 ∷ 98 ∷ [])
-    -- 0301 leaves requests alone: the one left over is still there, and can be accepted
-    ∷ answerIs (crossedRequests ++ (target 0x0301 8 2 9 ∷ [])) (target 0x0509 8 2 9) 0 (5 ∷ 0 ∷ 0 ∷ 0 ∷ 1 ∷ 0 ∷ 98 ∷ [])
-    ∷ numberIs (crossedRequests ++ (target 0x0301 8 2 9 ∷ [])) (target 0x0205 8 2 9) 0
+    -- requests that crossed are both removed, with their notes: nothing is left to accept, to read or to list, and the board is the one
+    -- that a single request leaves
+    ∷ numberIs crossedRequests (target 0x0205 8 2 9) 9
+    ∷ numberIs crossedRequests (target 0x0509 8 2 9) 9
+    ∷ numberIs crossedRequests (target 0x050a 9 3 8) 9
+    ∷ answerIs crossedRequests (login 0x0604 8 2) 0 (4 ∷ 0 ∷ 0 ∷ 0 ∷ 0 ∷ 0 ∷ [])
+    ∷ boardsAgree crossedRequests (staff ++ (targetString 0x0204 8 2 9 (97 ∷ []) ∷ target 0x0205 9 3 8 ∷ []))
+    -- so the friendship is not restored without a new request
+    ∷ numberIs (crossedRequests ++ (target 0x0301 8 2 9 ∷ [])) (target 0x0205 8 2 9) 9
+    ∷ numberIs (crossedRequests ++ (target 0x0301 8 2 9 ∷ [])) (targetString 0x0204 9 3 8 []) 0
     -- V = U: (h), and 9 for 0205, 0301, 0509, 050A; 0501 is accepted; 9 for 0202 and 0502, since the admin is not pending
     ∷ numberIs posted (target 0x0205 8 2 8) 9
     ∷ numberIs posted (target 0x0301 8 2 8) 9

@@ -14,15 +14,15 @@ use Rattle.layout.specs.Bits.{setBit, clearBit}
 use Rattle.reader.specs.Fields.{numberIn, nameLimit, infoLimit, titleLimit, textLimit, noteLimit}
 use Rattle.model.specs.Lists.{removeAt}
 use Rattle.model.specs.State.{User, Post, Pending, State, userLimit, postLimit, pendingLimit, noUser, noPost, noPending, userAt, postAt, pendingAt}
-use Rattle.model.specs.StateUpdates.{withUsers, withPosts, withPending, withPassword, withFriends, withRequests, withName, withInfo, withTitle}
+use Rattle.model.specs.StateUpdates.{withUsers, withPosts, withPending, withPassword, withFriends, withName, withInfo, withTitle}
 use Rattle.model.specs.Lookups.{userSlot, postPlace, pendingPlace, postNumbered}
 use Rattle.model.specs.Actions.{startSys, cNUReq, cUser, cPost, cFriendReq, cFriend, dFriend, uUser, uTitlePost, uTextPost, uImgPost, uVisPost}
-use Rattle.model.specs.Changes.{addUser, updateUser, writeRequest, writeFriend, updatePost, setNote, addRequest, removeRequest, addFriends, removeFriends, acceptRequest, applyChange}
+use Rattle.model.specs.Changes.{addUser, updateUser, writeRequest, writeFriend, updatePost, setNote, addRequest, removeRequest, addFriends, removeFriends, removeRequests, acceptRequest, applyChange}
 use Rattle.model.proofs.FieldUpdates.{withUserNumber, withPostNumber, withOwner, withPendingNumber, withPendingNote}
 use Rattle.model.proofs.RecordTheorems.{userCodec}
 use Rattle.model.proofs.TableRecordLaws.{fits-count}
 use Rattle.model.proofs.BoardTheorems.{Encodes}
-use Rattle.model.proofs.RowInvariant.{BitWrite, set-writes, clear-writes}
+use Rattle.model.proofs.RowInvariant.{BitWrite, set-writes, clear-writes, request-removed-length, requests-removed-length}
 use Rattle.model.proofs.StoredValues.{friends-width, requests-width}
 use Rattle.model.proofs.ReadingLaws.{read-user-friends, read-user-requests}
 use Rattle.model.proofs.WritingLaws.{write-user-number, write-user-password, write-user-friends, write-user-requests, write-user-name, write-user-info, write-post-number, write-post-picture, write-post-owner, write-post-visibility, write-post-title, write-post-text, write-pending-number, write-pending-note, write-note, clear-note, add-user, add-post, add-pending, remove-pending}
@@ -159,12 +159,16 @@ module _ {b : List ℕ} {s : State} (w : Encodes b s) where
 abbrev pub bitWritten : (ℕ → ℕ → ℕ) → List ℕ → ℕ → ℕ → List ℕ
 bitWritten f b at j = patch b at (toLeBytes 4 (f (numberIn b at 4) j))
 
--- the writes that put in slot j's request to slot i, that remove it, and that change the friend rows of both slots
+-- the writes that put in slot j's request to slot i, that remove it, that remove the requests of both slots to each other, and that change
+-- the friend rows of both
 abbrev pub requestAdded : List ℕ → ℕ → ℕ → List ℕ → List ℕ
 requestAdded b i j note = patch (bitWritten setBit b (16 + i * 104 + 16) j) (23824 + (userLimit * i + j) * 26) (stringField noteLimit note)
 
 abbrev pub requestRemoved : List ℕ → ℕ → ℕ → List ℕ
 requestRemoved b i j = patch (bitWritten clearBit b (16 + i * 104 + 16) j) (23824 + (userLimit * i + j) * 26) (replicate 26 0)
+
+abbrev pub requestsRemoved : List ℕ → ℕ → ℕ → List ℕ
+requestsRemoved b i j = requestRemoved (requestRemoved b i j) j i
 
 abbrev pub friendsWritten : (ℕ → ℕ → ℕ) → List ℕ → ℕ → ℕ → List ℕ
 friendsWritten f b i j = bitWritten f (bitWritten f b (16 + i * 104 + 12) j) (16 + j * 104 + 12) i
@@ -195,6 +199,20 @@ module _ {f : ℕ → ℕ → ℕ} {value : ℕ} (write : BitWrite f value) {b :
       let same = length-set (s .users) i (withFriends (userAt s i) (f (userAt s i .friends) j)) in
       friend-written write (friend-written write w i j hi hj) j i (omega arith) (omega arith)
 
+module _ {b : List ℕ} {s : State} (w : Encodes b s) (i j : ℕ) (hi : i < length (s .users)) (hj : j < length (s .users)) where
+  encodes-removed : Encodes (requestRemoved b i j) (removeRequest s i j)
+  unfolding removeRequest setNote updateUser
+  encodes-removed =
+      let n = fits-count userCodec userLimit (s .users) (w .fits .users) in
+      clear-note (request-written clear-writes w i j hi hj) (userLimit * i + j) (omega arith)
+
+module _ {b : List ℕ} {s : State} (w : Encodes b s) (i j : ℕ) (hi : i < length (s .users)) (hj : j < length (s .users)) where
+  encodes-both-removed : Encodes (requestsRemoved b i j) (removeRequests s i j)
+  unfolding removeRequests
+  encodes-both-removed =
+      let same = request-removed-length s i j in
+      encodes-removed (encodes-removed w i j hi hj) j i (rw same hj) (rw same hi)
+
 module _ {b : List ℕ} {s : State} (w : Encodes b s) (u p v : ℕ) (hu : userSlot s u < length (s .users)) (hv : userSlot s v < length (s .users)) where
   -- 0204
   pub writes-cFriendReq : (note : List ℕ) → isString noteLimit note ≡ true
@@ -205,16 +223,14 @@ module _ {b : List ℕ} {s : State} (w : Encodes b s) (u p v : ℕ) (hu : userSl
       write-note (request-written set-writes w (userSlot s v) (userSlot s u) hv hu) (userLimit * userSlot s v + userSlot s u) (omega arith) note e
 
   -- 0205
-  pub writes-cFriend : Encodes (friendsWritten setBit (requestRemoved b (userSlot s u) (userSlot s v)) (userSlot s u) (userSlot s v))
-      (applyChange s (cFriend u p v))
-  unfolding applyChange acceptRequest addFriends removeRequest setNote updateUser
+  pub writes-cFriend : let i : ℕ = userSlot s u in let j : ℕ = userSlot s v in
+      Encodes (friendsWritten setBit (requestsRemoved b i j) i j) (applyChange s (cFriend u p v))
+  unfolding applyChange acceptRequest addFriends
   writes-cFriend =
       let i : ℕ = userSlot s u in
       let j : ℕ = userSlot s v in
-      let n = fits-count userCodec userLimit (s .users) (w .fits .users) in
-      let same = length-set (s .users) i (withRequests (userAt s i) (clearBit (userAt s i .requests) j)) in
-      let removed = clear-note (request-written clear-writes w i j hu hv) (userLimit * i + j) (omega arith) in
-      friends-written set-writes removed i j (omega arith) (omega arith)
+      let same = requests-removed-length s i j in
+      friends-written set-writes (encodes-both-removed w i j hu hv) i j (rw same hu) (rw same hv)
 
   -- 0301
   pub writes-dFriend : Encodes (friendsWritten clearBit b (userSlot s u) (userSlot s v)) (applyChange s (dFriend u p v))

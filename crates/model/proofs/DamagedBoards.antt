@@ -1,6 +1,6 @@
 -- For each clause of soundness boards that break it and no other: a sound board with bytes written into one record. What the clauses say of
 -- such a board is computed on its records.
-use Prim.Native.Nat.{ℕ, zero, suc, _+_, _*_}
+use Prim.Native.Nat.{ℕ, zero, suc, _+_, _-_, _*_}
 use mathlib.Core.Path.{_≡_, refl, sym, ap, _∙_}
 use mathlib.Core.List.{List, [], _∷_, _++_, map, flatten, sum, append-nil, map-append}
 use mathlib.Core.Bool.{Bool, true, false}
@@ -14,7 +14,7 @@ use Rattle.layout.proofs.ConcatenationLaws.{flatten-append}
 use Rattle.model.specs.Lists.{forAll, allTrue, allBelow, contains, distinct}
 use Rattle.model.specs.State.{State, userLimit, postLimit, pendingLimit, noteCount, emptyState, userNumbers, postNumbers, pendingNumbers, userAt, notesTo}
 use Rattle.model.specs.Board.{boardSize, storedBytes, recordBytes, headerFields, userFields, postFields, pendingFields, noteFields, decodeUser, decodePost, decodePending, BoardRecords, cutBoard, joinRecords, tableRecords, recordsOf, userCount, postCount, pendingCount, stateOf, encode, decode}
-use Rattle.model.specs.Soundness.{countsWithinLimits, unusedRecordsZero, userStrings, postStrings, pendingStrings, stringsWithinLimits, fillerZero, numbersNotZero, numbersDistinct, pendingNotRegistered, friendsSymmetric, noOwnBit, bitsBelowCount, notesRequested, ownersRegistered, visibilityValid, recordClauses, stateClauses, zeroWithoutUsers, clauseResults, isSound}
+use Rattle.model.specs.Soundness.{countsWithinLimits, unusedRecordsZero, userStrings, postStrings, pendingStrings, stringsWithinLimits, fillerZero, numbersNotZero, numbersDistinct, pendingNotRegistered, friendsSymmetric, noOwnBit, bitsBelowCount, notesRequested, ownersRegistered, visibilityValid, friendsNotRequested, recordClauses, stateClauses, zeroWithoutUsers, clauseResults, isSound}
 use Rattle.model.proofs.StateRules.{storedFits, tableFits, stateFits}
 use Rattle.model.proofs.BoardTheorems.{fitting, right-sizes, length-encode, cut-encode}
 use Rattle.model.proofs.AllRecordLaws.{allRecords, allSizes, boardTables, flatten-all, sizes-all, length-all, cut-all, Write, writesBoard, writesRecords, writesPass, writes-records}
@@ -125,16 +125,20 @@ fullState = record {
 
 -- all that the rows below compute
 unfoldable definitions : Unit {0}
-unfolding exampleState numbersFrom fullState emptyState recordsAfter recordsLonger zeroWithoutUsers encode cutBoard joinRecords flatten patch bytesAt offset sum recordsOf recordBytes headerFields userFields postFields pendingFields noteFields storedBytes storedFits tableRecords tableFits stateFits toLeBytes fromLeBytes stringField stringBytes isStringField statedLength fieldString isString allZero allTrue forAll allBelow contains distinct indexOf indexAfter countsWithinLimits unusedRecordsZero stringsWithinLimits fillerZero userStrings postStrings pendingStrings userCount postCount pendingCount stateOf decodeUser decodePost decodePending userNumbers postNumbers pendingNumbers userAt notesTo bitAt hasBit numbersNotZero numbersDistinct pendingNotRegistered friendsSymmetric noOwnBit bitsBelowCount notesRequested ownersRegistered visibilityValid
+unfolding exampleState numbersFrom fullState emptyState recordsAfter recordsLonger zeroWithoutUsers encode cutBoard joinRecords flatten patch bytesAt offset sum recordsOf recordBytes headerFields userFields postFields pendingFields noteFields storedBytes storedFits tableRecords tableFits stateFits toLeBytes fromLeBytes stringField stringBytes isStringField statedLength fieldString isString allZero allTrue forAll allBelow contains distinct indexOf indexAfter countsWithinLimits unusedRecordsZero stringsWithinLimits fillerZero userStrings postStrings pendingStrings userCount postCount pendingCount stateOf decodeUser decodePost decodePending userNumbers postNumbers pendingNumbers userAt notesTo bitAt hasBit numbersNotZero numbersDistinct pendingNotRegistered friendsSymmetric noOwnBit bitsBelowCount notesRequested ownersRegistered visibilityValid friendsNotRequested
 definitions = tt
 
 -- ---- sound boards
+
+-- how many results `clauseResults` has
+abbrev clauseCount : ℕ
+clauseCount = 16
 
 -- a state that fits, and whose board no clause refuses
 pub record SoundBoard : Type 0 where
   pub state : State
   pub fits : stateFits state ≡ true
-  pub holds : clauseResults (encode state) ≡ replicate 15 true
+  pub holds : clauseResults (encode state) ≡ replicate clauseCount true
 
 pub example : SoundBoard
 unfolding definitions
@@ -148,7 +152,7 @@ pub empty : SoundBoard
 unfolding definitions
 empty = record { state = emptyState; fits = refl; holds = results-encode emptyState refl }
 
-pub sound-boards : map (λ (b : SoundBoard). clauseResults (encode (b .state))) (example ∷ full ∷ empty ∷ []) ≡ replicate 3 (replicate 15 true)
+pub sound-boards : map (λ (b : SoundBoard). clauseResults (encode (b .state))) (example ∷ full ∷ empty ∷ []) ≡ replicate 3 (replicate clauseCount true)
 sound-boards = λ i. example .holds i ∷ full .holds i ∷ empty .holds i ∷ []
 
 -- ---- damaged boards
@@ -167,13 +171,13 @@ pub record DamagedBoard : Type 0 where
   pub clause : ℕ
   pub sound : SoundBoard
   pub damage : Damage
-  pub breaks : clauseResults (damagedBy damage (encode (sound .state))) ≡ set (replicate 15 true) clause false
+  pub breaks : clauseResults (damagedBy damage (encode (sound .state))) ≡ set (replicate clauseCount true) clause false
 
 abbrev pub boardOf : DamagedBoard → List ℕ
 boardOf d = damagedBy (d .damage) (encode (d .sound .state))
 
 damaged : (clause : ℕ) (b : SoundBoard) (ws : List Write) → writesPass allSizes ws ≡ true
-    → true ∷ clausesOn (boardTables (recordsAfter (b .state) ws)) (flatten (recordsAfter (b .state) ws)) ≡ set (replicate 15 true) clause false
+    → true ∷ clausesOn (boardTables (recordsAfter (b .state) ws)) (flatten (recordsAfter (b .state) ws)) ≡ set (replicate clauseCount true) clause false
     → DamagedBoard
 damaged clause b ws u e = record { clause = clause; sound = b; damage = written ws; breaks = results-writes (b .state) (b .fits) ws u ∙ e }
 
@@ -244,18 +248,21 @@ damagedStates =
     ∷ damaged 12 example (post 1 8 (3 ∷ []) ∷ []) refl refl
     -- visibility 2
     ∷ damaged 13 example (post 1 10 (2 ∷ []) ∷ []) refl refl
+    -- slots 0 and 1 are friends, and slot 0 has requested slot 1; slot 1 has requested slot 0
+    ∷ damaged 14 example (user 1 16 (1 ∷ []) ∷ []) refl refl
+    ∷ damaged 14 example (user 0 16 (6 ∷ []) ∷ []) refl refl
     -- no users and one pending: its count and its number, on the empty board
-    ∷ damaged 14 empty (header 4 (1 ∷ []) ∷ pending 0 0 (1 ∷ []) ∷ []) refl refl
+    ∷ damaged (clauseCount - 1) empty (header 4 (1 ∷ []) ∷ pending 0 0 (1 ∷ []) ∷ []) refl refl
     ∷ []
 
 pub damagedBoards : List DamagedBoard
 damagedBoards = damagedTables ++ (damagedStrings ++ damagedStates)
 
 pub damaged-boards : map (λ (d : DamagedBoard). clauseResults (boardOf d)) damagedBoards
-    ≡ map (λ (d : DamagedBoard). set (replicate 15 true) (d .clause) false) damagedBoards
+    ≡ map (λ (d : DamagedBoard). set (replicate clauseCount true) (d .clause) false) damagedBoards
 damaged-boards = by-rows damagedBoards
   where
-    by-rows : (ds : List DamagedBoard) → map (λ d. clauseResults (boardOf d)) ds ≡ map (λ d. set (replicate 15 true) (d .clause) false) ds
+    by-rows : (ds : List DamagedBoard) → map (λ d. clauseResults (boardOf d)) ds ≡ map (λ d. set (replicate clauseCount true) (d .clause) false) ds
     by-rows [] = refl
     by-rows (d ∷ ds) = λ i. d .breaks i ∷ by-rows ds i
 
@@ -264,10 +271,10 @@ unfolding isSound
 sound-results b = refl
 
 -- so none of them is sound
-pub damaged-unsound : map (λ (d : DamagedBoard). isSound (boardOf d)) damagedBoards ≡ replicate 38 false
+pub damaged-unsound : map (λ (d : DamagedBoard). isSound (boardOf d)) damagedBoards ≡ replicate 40 false
 unfolding damagedBoards damagedTables damagedStrings damagedStates damaged allTrue forAll
 damaged-unsound = by-results damagedBoards
   where
-    by-results : (ds : List DamagedBoard) → map (λ d. isSound (boardOf d)) ds ≡ map (λ d. allTrue (set (replicate 15 true) (d .clause) false)) ds
+    by-results : (ds : List DamagedBoard) → map (λ d. isSound (boardOf d)) ds ≡ map (λ d. allTrue (set (replicate clauseCount true) (d .clause) false)) ds
     by-results [] = refl
     by-results (d ∷ ds) = λ i. (sound-results (boardOf d) ∙ ap allTrue (d .breaks)) i ∷ by-results ds i

@@ -13,7 +13,7 @@ use Rattle.layout.specs.StringFields.{isString}
 use Rattle.model.specs.Lists.{forAll, allTrue, allBelow, distinct}
 use Rattle.model.specs.State.{State, userLimit, postLimit, pendingLimit, noteCount, noUser, noPost, noPending, emptyState, userNumbers, postNumbers, pendingNumbers, userAt, notesTo}
 use Rattle.model.specs.Board.{storedBytes, recordBytes, headerFields, noteFields, joinRecords, recordsOf, encode, emptyBoard}
-use Rattle.model.specs.Soundness.{numbersNotZero, numbersDistinct, pendingNotRegistered, friendsSymmetric, noOwnBit, bitsBelowCount, notesRequested, ownersRegistered, visibilityValid}
+use Rattle.model.specs.Soundness.{numbersNotZero, numbersDistinct, pendingNotRegistered, friendsSymmetric, noOwnBit, bitsBelowCount, notesRequested, ownersRegistered, visibilityValid, friendsNotRequested}
 use Rattle.model.proofs.StateRules.{storedFits, tableFits, stateFits, nothingWithoutUsers, keepsRules}
 use Rattle.layout.specs.Bits.{bitAt, hasBit}
 use Rattle.model.proofs.ListLaws.{true-at, map-constant, length-nil}
@@ -61,7 +61,7 @@ unfolding nothingWithoutUsers allTrue forAll emptyState
 empty-nothing = refl
 
 pub empty-keeps : keepsRules emptyState ≡ true
-unfolding keepsRules nothingWithoutUsers numbersNotZero numbersDistinct pendingNotRegistered friendsSymmetric noOwnBit bitsBelowCount notesRequested ownersRegistered visibilityValid allTrue forAll allBelow distinct userNumbers postNumbers pendingNumbers userAt notesTo hasBit bitAt emptyState
+unfolding keepsRules nothingWithoutUsers numbersNotZero numbersDistinct pendingNotRegistered friendsSymmetric noOwnBit bitsBelowCount notesRequested ownersRegistered visibilityValid friendsNotRequested allTrue forAll allBelow distinct userNumbers postNumbers pendingNumbers userAt notesTo hasBit bitAt emptyState
 empty-keeps = refl
 
 -- a state with no users that keeps the rules is the empty state

@@ -4,9 +4,9 @@
 use Prim.Native.Nat.{ℕ, _+_, _^_, _≤_, _<_, zero-le}
 use native.Mathlib.Nat.{lt-of-lt-of-le}
 use native.Mathlib.Omega.{arith}
-use mathlib.Core.Path.{_≡_, refl, sym, ap, _∙_, subst}
+use mathlib.Core.Path.{_≡_, refl, sym, ap, ap₂, _∙_, subst}
 use mathlib.Core.List.{List, [], _∷_, _++_, map, map-append}
-use mathlib.Core.Bool.{Bool, true, false, not}
+use mathlib.Core.Bool.{Bool, true, false, not, _&&_}
 use mathlib.Core.Option.{Option, some, none}
 use lib.ListN.{length, getD, set, length-append, length-set, List·getD-eq-default}
 use lib.Seq.{map-set-same}
@@ -102,6 +102,12 @@ module _ (s : State) (r : Rules s) where
       (λ j l. bit-beyond (userAt s i .friends) count j (all-friends-below i) l ∙ sym (no-bit i)))
       (λ i h j. no-bit j ∙ sym (bit-beyond (userAt s j .friends) count i (all-friends-below j) h))
 
+  -- a request row has no bit of a friend
+  pub all-apart : (i j : ℕ) → j < userLimit → (hasBit (userAt s i .friends) j && hasBit (userAt s i .requests) j) ≡ false
+  all-apart i j l =
+      every-slot (λ i u. (hasBit (u .friends) j && hasBit (u .requests) j) ≡ false) (λ i h. r .apart i j h l)
+      (λ i h. ap (λ (t : Bool). t && hasBit 0 j) (not-set j)) i
+
 -- ---- users
 
 abbrev numbersOf : List User → List ℕ
@@ -144,6 +150,8 @@ valid-users s v us k =
         owners = all-weaken (λ (p : Post). ltb (p .owner) (length (s .users))) (λ (p : Post). ltb (p .owner) (length us))
             (λ p e. lt-ltb (p .owner) (length us) (lt-of-lt-of-le (ltb-true (p .owner) (length (s .users)) e) (k .more))) (s .posts) (r .owners);
         visibilities = r .visibilities;
+        apart = λ i j h l.
+            ap₂ (λ (friends requests : ℕ). hasBit friends j && hasBit requests j) (k .same-friends i) (k .same-requests i) ∙ all-apart s r i j l;
       });
     }
 
@@ -200,6 +208,7 @@ module _ (s : State) (v : ValidState s) where
           unrequested-empty = r .unrequested-empty;
           owners = p .owners;
           visibilities = p .visibilities;
+          apart = r .apart;
         });
       }
 

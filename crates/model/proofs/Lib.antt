@@ -35,4 +35,5 @@ pub mod StepTheorems
 pub mod CaseTheorems
 pub mod WrongSteps
 pub mod ReplayTheorems
+pub mod RequestTheorems
 pub mod WrongReplays

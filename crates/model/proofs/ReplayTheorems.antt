@@ -7,6 +7,7 @@
 --     replay-resumed, resumed-complete   a second replay of the rest does the remaining messages, and both together show the whole run
 --     steps-decide       no step in it returns 1, 2 or 3
 --     sound-prefix, sound-complete, replayed-sound   the same from any sound board
+--     replayed-valid     the state of the board that it leaves is valid
 --     messages-counted   the message count is the number of frames passed
 -- On any board, sound or not:
 --     unsound-replay     a board that is not sound: 1, and nothing is changed
@@ -34,6 +35,7 @@ use Rattle.model.specs.Soundness.{isSound}
 use Rattle.model.specs.Step.{answerLimit, Response, stepState, StepResult, writeAnswer, stepOf}
 use Rattle.model.specs.Replay.{framesOf, unread, Exchange, runFrames, runOf, ReplayResult, stopped, continued, replayIn, replayOf}
 use Rattle.model.proofs.ListLaws.{all-at}
+use Rattle.model.proofs.BoardTheorems.{decode-encode}
 use Rattle.model.proofs.SoundnessTheorems.{sound-state}
 use Rattle.model.proofs.RuleLaws.{ValidState}
 use Rattle.model.proofs.RefusalTheorems.{frame-number}
@@ -671,6 +673,14 @@ module _ (j b o : List ℕ) (y : areBytes b ≡ true) (e : isSound b ≡ true) w
 
   pub replayed-sound : isSound (replayOf j b o .board) ≡ true
   replayed-sound = ap (λ (r : ReplayResult). isSound (r .board)) sound-encoded ∙ replay-sound j (decode b) o (valid-board b y e)
+
+  -- and its state is valid
+  pub replayed-valid : ValidState (decode (replayOf j b o .board))
+  replayed-valid =
+      let r : ReplayResult = replayOf j b o in
+      let last : State = lastState (decode b) (take (r .messages) (runOf stepState (decode b) j)) in
+      let valid = valid-after j (decode b) (r .messages) (valid-board b y e) in
+      subst ValidState (sym (ap (λ (x : ReplayResult). decode (x .board)) (sound-prefix .equal) ∙ decode-encode last (valid .fits))) valid
 
 -- the message count is the number of frames passed, on any board
 pub messages-counted : (j b o : List ℕ) → areBytes b ≡ true → replayOf j b o .messages ≡ length (framesOf (take (replayOf j b o .passed) j))

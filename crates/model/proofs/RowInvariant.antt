@@ -1,6 +1,6 @@
 -- Requests and friendships put in and removed keep a state valid. A change of a bit is described for all rows at once: row i gets the
--- value at place j, and every other bit stays. `request-kept`, `request-removed-kept`, `friends-kept`, `friends-removed-kept`, and for the
--- kinds `friend-request-valid`, `friend-valid`, `unfriend-valid`.
+-- value at place j, and every other bit stays. `request-kept`, `request-removed-kept`, `requests-removed-kept`, `friends-kept`,
+-- `friends-removed-kept`, and for the kinds `friend-request-valid`, `friend-valid`, `unfriend-valid`.
 use Prim.Native.Nat.{ℕ, _+_, _*_, _^_, _≤_, _<_}
 use native.Mathlib.Nat.{lt-of-lt-of-le, lt-of-le-of-lt}
 use native.Mathlib.Omega.{arith}
@@ -16,17 +16,17 @@ use lib.Pow.{pow-mono}
 use borrow.Author.Tests.{not-false, eqb-true, eqb-false, eq-eqb, ne-eqb, lt-ltb}
 use Rattle.layout.specs.Bits.{bitAt, hasBit, setBit, clearBit}
 use Rattle.layout.specs.StringFields.{isString}
-use Rattle.layout.proofs.BooleanLaws.{and-left, and-right, and-both, apply-cond}
+use Rattle.layout.proofs.BooleanLaws.{and-left, and-right, and-both, apply-cond, cond-same}
 use Rattle.layout.proofs.BitLaws.{bit-set, bit-set-other, bit-clear, bit-clear-other, set-lt, clear-le}
 use Rattle.reader.specs.Fields.{noteLimit}
 use Rattle.model.specs.Lists.{forAll, contains, distinct}
 use Rattle.model.specs.State.{User, Post, State, userLimit, noteCount, userNumbers, postNumbers, pendingNumbers, noUser, userAt, notesTo, noteAt}
 use Rattle.model.specs.StateUpdates.{withUsers, withNotes, withFriends, withRequests}
 use Rattle.model.specs.Board.{unsigned, userFields, noteFields}
-use Rattle.model.specs.Lookups.{isRegistered, userSlot, userNumbered, hasRequested}
+use Rattle.model.specs.Lookups.{isRegistered, userSlot, userNumbered, areFriends, hasRequested}
 use Rattle.model.specs.Actions.{cFriendReq, cFriend, dFriend}
 use Rattle.model.specs.Refusals.{firstCause, changeRefusals, afterLogin, userRows}
-use Rattle.model.specs.Changes.{updateUser, setNote, writeRequest, writeFriend, addRequest, removeRequest, addFriends, removeFriends, acceptRequest, applyChange}
+use Rattle.model.specs.Changes.{updateUser, setNote, writeRequest, writeFriend, addRequest, removeRequest, addFriends, removeFriends, removeRequests, acceptRequest, applyChange}
 use Rattle.model.proofs.StateRules.{storedFits}
 use Rattle.model.proofs.ListLaws.{all-at, all-set, field-set}
 use Rattle.model.proofs.RecordTheorems.{userCodec, noteCodec}
@@ -93,6 +93,18 @@ module _ {f : ℕ → ℕ → ℕ} {value : ℕ} (w : BitWrite f value) (rows : 
       by-row k true l = w .bound n (rows k) j l h
       by-row k false l = l
 
+  -- rows with no bit in common with others stay so, if a bit is set only where the other row has none
+  apart-written : (others : ℕ → ℕ) (i j : ℕ) → j < 32 → (eqb value 1 && hasBit (others i) j) ≡ false
+      → (k m : ℕ) → (hasBit (rows k) m && hasBit (others k) m) ≡ false → (hasBit (writeRow f i j rows k) m && hasBit (others k) m) ≡ false
+  unfolding hasBit
+  apart-written others i j h free k m old =
+      ap (λ (x : ℕ). eqb x 1 && hasBit (others k) m) (bit-written i j h k m) ∙ by-place (eqb k i && eqb m j) refl
+    where
+      by-place : (t : Bool) → (eqb k i && eqb m j) ≡ t → (eqb (cond t value (bitAt (rows k) m)) 1 && hasBit (others k) m) ≡ false
+      by-place true e =
+          ap₂ (λ (a b : ℕ). eqb value 1 && hasBit (others a) b) (eqb-true k i (and-left (eqb k i) (eqb m j) e)) (eqb-true m j (and-right (eqb k i) (eqb m j) e)) ∙ free
+      by-place false e = old
+
 -- rows written at (i, j) and at (j, i) stay symmetric
 module _ {f : ℕ → ℕ → ℕ} {value : ℕ} (w : BitWrite f value) (rows : ℕ → ℕ) {n : ℕ} (i j : ℕ) (b : n ≤ 32) (hi : i < n) (hj : j < n) where
   symmetric-kept : SymmetricRows n rows → SymmetricRows n (writeRow f j i (writeRow f i j rows))
@@ -126,13 +138,17 @@ requestRows s k = userAt s k .requests
 abbrev RequestedNotes : (ℕ → ℕ) → (ℕ → ℕ → List ℕ) → Type 0
 RequestedNotes rows notes = (k m : ℕ) → k < userLimit → m < userLimit → hasBit (rows k) m ≡ false → notes k m ≡ []
 
+-- no bit is set in both rows of a slot
+abbrev ApartRows : ℕ → (ℕ → ℕ) → (ℕ → ℕ) → Type 0
+ApartRows n friends requests = (k m : ℕ) → k < n → m < userLimit → (hasBit (friends k) m && hasBit (requests k) m) ≡ false
+
 -- the rules of a state with other users of the same numbers and other notes, from those of its rows and notes
 rules-with-rows : (s : State) → Rules s → 0 < length (s .users) → (us : List User) (ns : List (List ℕ)) → userNumbers (withUsers s us) ≡ userNumbers s
     → RowRules (length (s .users)) (friendRows (withUsers s us)) → SymmetricRows (length (s .users)) (friendRows (withUsers s us))
     → RowRules (length (s .users)) (requestRows (withUsers s us)) → RequestedNotes (requestRows (withUsers s us)) (noteAt (withNotes s ns))
-    → Rules (withNotes (withUsers s us) ns)
+    → ApartRows (length (s .users)) (friendRows (withUsers s us)) (requestRows (withUsers s us)) → Rules (withNotes (withUsers s us) ns)
 unfolding userNumbers postNumbers pendingNumbers userAt notesTo noteAt
-rules-with-rows s r positive us ns numbers friends symmetric requests notes =
+rules-with-rows s r positive us ns numbers friends symmetric requests notes apart =
     let count : length us ≡ length (s .users) =
     sym (length-map us (λ (u : User). u .number)) ∙ ap length numbers ∙ length-map (s .users) (λ (u : User). u .number)
     in
@@ -153,6 +169,7 @@ rules-with-rows s r positive us ns numbers friends symmetric requests notes =
       unrequested-empty = notes;
       owners = ap (λ (n : ℕ). forAll (λ (p : Post). ltb (p .owner) n) (s .posts)) count ∙ r .owners;
       visibilities = r .visibilities;
+      apart = λ i j h l. apart i j (omega arith) l;
     }
 
 -- ---- an element, a user and a note replaced
@@ -194,6 +211,17 @@ module _ (s : State) (i : ℕ) (g : User → User) where
       (ap (forAll storedFits) e ∙ all-set storedFits (userFields (userAt s i)) p (unsigned 4 x)
       (all-at (λ (u : User). forAll storedFits (userFields u)) (s .users) i noUser (fits-records userCodec userLimit (s .users) (fit .users)) h)
       (lt-ltb x (256 ^ 4) l)))
+
+-- the bits of the users' rows after that of slot i at place j was written
+pub bits-written : {f : ℕ → ℕ → ℕ} {value : ℕ} → BitWrite f value → (s : State) (i j : ℕ) (g : User → User) (row : User → ℕ) → i < length (s .users)
+    → j < 32 → ((a : User) → row (g a) ≡ f (row a) j)
+    → (k m : ℕ) → hasBit (row (userAt (updateUser s i g) k)) m ≡ cond (eqb k i && eqb m j) (eqb value 1) (hasBit (row (userAt s k)) m)
+unfolding hasBit writeRow
+bits-written {value} w s i j g row hi hj e k m =
+    let old : ℕ = row (userAt s k) in
+    ap (λ (x : ℕ). eqb (bitAt x m) 1) (field-updated s i g row hi k ∙ ap (λ (x : ℕ). cond (eqb k i) x old) (e (userAt s k)))
+    ∙ ap (λ (x : ℕ). eqb x 1) (bit-written w (λ (l : ℕ). row (userAt s l)) i j hj k m)
+    ∙ apply-cond (λ (x : ℕ). eqb x 1) (eqb k i && eqb m j) value (bitAt old m)
 
 -- a row written, on one side or on both
 module _ (f : ℕ → ℕ → ℕ) (s : State) (i j : ℕ) where
@@ -237,11 +265,11 @@ module _ {f : ℕ → ℕ → ℕ} {value : ℕ} (w : BitWrite f value) (s : Sta
   row-lt row m h l = lt-of-lt-of-le (w .bound (length (s .users)) row m h l) (pow-mono limit)
 
   module _ (i j : ℕ) (hi : i < length (s .users)) (hj : j < length (s .users)) (own : i ≡ j → value ≡ 0) where
-    -- only where the value is 1 may the note be other than empty
+    -- only where the value is 1 may the note be other than empty, and then the two are no friends
     request-written : (note : List ℕ) → isString noteLimit note ≡ true → (eqb value 1 ≡ false → note ≡ [])
-        → ValidState (setNote (writeRequest f s i j) i j note)
+        → (eqb value 1 && hasBit (userAt s i .friends) j) ≡ false → ValidState (setNote (writeRequest f s i j) i j note)
     unfolding updateUser setNote writeRow hasBit userFields
-    request-written note string empty =
+    request-written note string empty free =
         let n : ℕ = length (s .users) in
         let b = limit in
         let t : State = writeRequest f s i j in
@@ -263,7 +291,12 @@ module _ {f : ℕ → ℕ → ℕ} {value : ℕ} (w : BitWrite f value) (s : Sta
               (subst (λ (rows : ℕ → ℕ). RequestedNotes rows (noteAt (setNote s i j note))) (sym requests) (λ k m hk hm e.
               note-written s (v .fits) i j note (omega arith) (omega arith) k m hm
               ∙ by-place k m (eqb k i && eqb m j) (r .unrequested-empty k m hk hm)
-              (sym (ap (λ (x : ℕ). eqb x 1) (bit-written w (requestRows s) i j (omega arith) k m)) ∙ e))));
+              (sym (ap (λ (x : ℕ). eqb x 1) (bit-written w (requestRows s) i j (omega arith) k m)) ∙ e)))
+              (λ k m hk hm.
+              ap₂ (λ (friends requests : ℕ). hasBit friends m && hasBit requests m) (λ p. friends p k) (λ p. requests p k)
+              ∙ and-comm (hasBit (userAt s k .friends) m) (hasBit (writeRow f i j (requestRows s) k) m)
+              ∙ apart-written w (requestRows s) (friendRows s) i j (omega arith) free k m
+              (and-comm (hasBit (userAt s k .requests) m) (hasBit (userAt s k .friends) m) ∙ r .apart k m hk hm)));
         }
       where
         by-place : (k m : ℕ) (t : Bool) → (hasBit (userAt s k .requests) m ≡ false → noteAt s k m ≡ [])
@@ -271,10 +304,11 @@ module _ {f : ℕ → ℕ → ℕ} {value : ℕ} (w : BitWrite f value) (s : Sta
         by-place k m true old e = empty e
         by-place k m false old e = unfold hasBit in old e
 
-    -- s₁ has row i written, s₂ both
-    friends-written : ValidState (writeFriend f (writeFriend f s i j) j i)
+    -- s₁ has row i written, s₂ both; where the value is 1 there is no request between the two
+    friends-written : (eqb value 1 && hasBit (userAt s i .requests) j) ≡ false → (eqb value 1 && hasBit (userAt s j .requests) i) ≡ false
+        → ValidState (writeFriend f (writeFriend f s i j) j i)
     unfolding updateUser writeRow notesTo noteAt userFields
-    friends-written =
+    friends-written free₁ free₂ =
         let n : ℕ = length (s .users) in
         let b = limit in
         let s₁ : State = writeFriend f s i j in
@@ -304,44 +338,104 @@ module _ {f : ℕ → ℕ → ℕ} {value : ℕ} (w : BitWrite f value) (s : Sta
               (subst (RowRules n) (sym friends₂) (rows-kept w (writeRow f i j (friendRows s)) j i b hi (λ e. own (sym e)) rules₁))
               (subst (SymmetricRows n) (sym friends₂) (symmetric-kept w (friendRows s) i j b hi hj (r .symmetric)))
               (subst (RowRules n) (sym requests) (record { not-own = r .not-own-request; below = r .requests-below }))
-              (subst (λ (rows : ℕ → ℕ). RequestedNotes rows (noteAt s)) (sym requests) (r .unrequested-empty)));
+              (subst (λ (rows : ℕ → ℕ). RequestedNotes rows (noteAt s)) (sym requests) (r .unrequested-empty))
+              (λ k m hk hm.
+              ap₂ (λ (friends requests : ℕ). hasBit friends m && hasBit requests m) (λ p. friends₂ p k) (λ p. requests p k)
+              ∙ apart-written w (writeRow f i j (friendRows s)) (requestRows s) j i (omega arith) free₂ k m
+              (apart-written w (friendRows s) (requestRows s) i j (omega arith) free₁ k m (r .apart k m hk hm))));
         }
 
 -- ---- the parts of changes, over slots
 
 module _ (s : State) (v : ValidState s) (i j : ℕ) (hi : i < length (s .users)) (hj : j < length (s .users)) where
-  pub request-kept : i ≢ j → (note : List ℕ) → isString noteLimit note ≡ true → ValidState (addRequest s i j note)
+  pub request-kept : i ≢ j → hasBit (userAt s i .friends) j ≡ false → (note : List ℕ) → isString noteLimit note ≡ true → ValidState (addRequest s i j note)
   unfolding addRequest
-  request-kept differ note e = request-written set-writes s v i j hi hj (λ q. absurd (differ q)) note e (λ q. absurd (false≢true (sym q)))
+  request-kept differ free note e = request-written set-writes s v i j hi hj (λ q. absurd (differ q)) note e (λ q. absurd (false≢true (sym q))) free
 
   pub request-removed-kept : ValidState (removeRequest s i j)
   unfolding removeRequest isString
-  request-removed-kept = request-written clear-writes s v i j hi hj (λ q. refl) [] refl (λ q. refl)
+  request-removed-kept = request-written clear-writes s v i j hi hj (λ q. refl) [] refl (λ q. refl) refl
 
-  pub friends-kept : i ≢ j → ValidState (addFriends s i j)
+  pub friends-kept : i ≢ j → hasBit (userAt s i .requests) j ≡ false → hasBit (userAt s j .requests) i ≡ false → ValidState (addFriends s i j)
   unfolding addFriends
-  friends-kept differ = friends-written set-writes s v i j hi hj (λ q. absurd (differ q))
+  friends-kept differ free₁ free₂ = friends-written set-writes s v i j hi hj (λ q. absurd (differ q)) free₁ free₂
 
   pub friends-removed-kept : ValidState (removeFriends s i j)
   unfolding removeFriends
-  friends-removed-kept = friends-written clear-writes s v i j hi hj (λ q. refl)
+  friends-removed-kept = friends-written clear-writes s v i j hi hj (λ q. refl) refl refl
+
+-- ---- the requests of two slots to each other removed: neither bit is left
+
+pub requests-removed-numbers : (s : State) (i j : ℕ) → userNumbers (removeRequests s i j) ≡ userNumbers s
+unfolding removeRequests removeRequest setNote userNumbers
+requests-removed-numbers s i j = request-numbers clearBit (removeRequest s i j) j i ∙ request-numbers clearBit s i j
+
+pub request-removed-length : (s : State) (i j : ℕ) → length (removeRequest s i j .users) ≡ length (s .users)
+unfolding removeRequest setNote updateUser
+request-removed-length s i j = length-set (s .users) i (withRequests (userAt s i) (clearBit (userAt s i .requests) j))
+
+pub requests-removed-length : (s : State) (i j : ℕ) → length (removeRequests s i j .users) ≡ length (s .users)
+unfolding removeRequests
+requests-removed-length s i j = request-removed-length (removeRequest s i j) j i ∙ request-removed-length s i j
+
+module _ (s : State) (valid : ValidState s) (i j : ℕ) (hi : i < length (s .users)) (hj : j < length (s .users)) where
+  abbrev removed : State
+  removed = removeRequest s i j
+
+  -- the bits that are left when one is removed
+  bits-left : (k m : ℕ) → hasBit (userAt removed k .requests) m ≡ cond (eqb k i && eqb m j) false (hasBit (userAt s k .requests) m)
+  unfolding removeRequest setNote userAt
+  bits-left k m =
+      let n = fits-count userCodec userLimit (s .users) (valid .fits .users) in
+      bits-written clear-writes s i j (λ (a : User). withRequests a (clearBit (a .requests) j)) (λ a. a .requests) hi (omega arith) (λ a. refl) k m
+
+  bit-removed : hasBit (userAt removed i .requests) j ≡ false
+  bit-removed = bits-left i j ∙ ap (λ (t : Bool). cond t false (hasBit (userAt s i .requests) j)) (and-both (eq-eqb i i refl) (eq-eqb j j refl))
+
+  -- what is not there is not put in
+  bit-absent : (k m : ℕ) → hasBit (userAt s k .requests) m ≡ false → hasBit (userAt removed k .requests) m ≡ false
+  bit-absent k m e = bits-left k m ∙ ap (cond (eqb k i && eqb m j) false) e ∙ cond-same (eqb k i && eqb m j) false
+
+module _ (s : State) (valid : ValidState s) (i j : ℕ) (hi : i < length (s .users)) (hj : j < length (s .users)) where
+  -- the first of the two removed
+  abbrev once : State
+  once = removeRequest s i j
+
+  once-valid : ValidState once
+  once-valid = request-removed-kept s valid i j hi hj
+
+  there : (k : ℕ) → k < length (s .users) → k < length (once .users)
+  there k h = rw (request-removed-length s i j) h
+
+  pub requests-removed-kept : ValidState (removeRequests s i j)
+  unfolding removeRequests
+  requests-removed-kept = request-removed-kept once once-valid j i (there j hj) (there i hi)
+
+  both-removed : (hasBit (userAt (removeRequests s i j) i .requests) j ≡ false) × (hasBit (userAt (removeRequests s i j) j .requests) i ≡ false)
+  unfolding removeRequests
+  both-removed = (
+    bit-absent once once-valid j i (there j hj) (there i hi) i j (bit-removed s valid i j hi hj),
+    bit-removed once once-valid j i (there j hj) (there i hi),
+  )
 
 -- ---- the kinds: rows 0 and 2 say that u and v are registered
 
 module _ (s : State) (u p v : ℕ) where
   pub friend-request-valid : (note : List ℕ) → ValidState s → isString noteLimit note ≡ true
       → firstCause (changeRefusals s (cFriendReq u p v note)) ≡ none → ValidState (applyChange s (cFriendReq u p v note))
-  unfolding changeRefusals userRows afterLogin applyChange
+  unfolding changeRefusals userRows afterLogin applyChange areFriends userNumbered hasBit
   friend-request-valid note valid string e =
       let passes = none-applies (changeRefusals s (cFriendReq u p v note)) e in
       let ru = not-false (isRegistered s u) (passes 0) in
       let rv = not-false (isRegistered s v) (passes 2) in
-      request-kept s valid (userSlot s v) (userSlot s u) (slot-below s v rv) (slot-below s u ru)
-      (λ q. eqb-false u v (passes 3) (slot-injective s u v ru rv (sym q))) note string
+      let hu = slot-below s u ru in
+      let hv = slot-below s v rv in
+      request-kept s valid (userSlot s v) (userSlot s u) hv hu (λ q. eqb-false u v (passes 3) (slot-injective s u v ru rv (sym q)))
+      (ap (λ (x : ℕ). eqb x 1) (rules-of s (valid .keeps) .symmetric (userSlot s v) (userSlot s u) hv hu) ∙ passes 4) note string
 
   -- a user has no request of its own, so the slots differ
   pub friend-valid : ValidState s → firstCause (changeRefusals s (cFriend u p v)) ≡ none → ValidState (applyChange s (cFriend u p v))
-  unfolding changeRefusals userRows afterLogin hasRequested userNumbered applyChange acceptRequest removeRequest setNote updateUser
+  unfolding changeRefusals userRows afterLogin hasRequested userNumbered applyChange acceptRequest
   friend-valid valid e =
       let passes = none-applies (changeRefusals s (cFriend u p v)) e in
       let i : ℕ = userSlot s u in
@@ -350,8 +444,10 @@ module _ (s : State) (u p v : ℕ) where
       let hj = slot-below s v (not-false (isRegistered s v) (passes 2)) in
       let requested = not-false (hasRequested s v u) (passes 3) in
       let not-own = rules-of s (valid .keeps) .not-own-request i hi in
-      friends-kept (removeRequest s i j) (request-removed-kept s valid i j hi hj) i j (rw length-set hi) (rw length-set hj)
-      (λ q. false≢true (sym not-own ∙ ap (hasBit (userAt s i .requests)) q ∙ requested))
+      let none-left = both-removed s valid i j hi hj in
+      let same = requests-removed-length s i j in
+      friends-kept (removeRequests s i j) (requests-removed-kept s valid i j hi hj) i j (rw same hi) (rw same hj)
+      (λ q. false≢true (sym not-own ∙ ap (hasBit (userAt s i .requests)) q ∙ requested)) (none-left .0) (none-left .1)
 
   pub unfriend-valid : ValidState s → firstCause (changeRefusals s (dFriend u p v)) ≡ none → ValidState (applyChange s (dFriend u p v))
   unfolding changeRefusals userRows afterLogin applyChange

@@ -12,7 +12,7 @@ use Rattle.layout.specs.Bits.{bitAt, hasBit}
 use Rattle.layout.proofs.BooleanLaws.{and-left, and-right, and-both}
 use Rattle.model.specs.Lists.{forAll, allTrue, allBelow, contains, distinct}
 use Rattle.model.specs.State.{User, Post, State, userLimit, userNumbers, postNumbers, pendingNumbers, noUser, userAt, noteAt}
-use Rattle.model.specs.Soundness.{numbersNotZero, numbersDistinct, pendingNotRegistered, friendsSymmetric, noOwnBit, bitsBelowCount, notesRequested, ownersRegistered, visibilityValid, stateClauses}
+use Rattle.model.specs.Soundness.{numbersNotZero, numbersDistinct, pendingNotRegistered, friendsSymmetric, noOwnBit, bitsBelowCount, notesRequested, ownersRegistered, visibilityValid, friendsNotRequested, stateClauses}
 use Rattle.model.proofs.StateRules.{nothingWithoutUsers, keepsRules}
 use Rattle.model.proofs.ListLaws.{all-at, all-by, true-at, below-at, below-by, length-nil}
 use Rattle.model.proofs.BoardTheorems.{FittingState}
@@ -39,6 +39,7 @@ pub record Rules (s : State) : Type 0 where
   pub unrequested-empty : (i j : ℕ) → i < userLimit → j < userLimit → hasBit (userAt s i .requests) j ≡ false → noteAt s i j ≡ []
   pub owners : forAll (λ (p : Post). ltb (p .owner) (length (s .users))) (s .posts) ≡ true
   pub visibilities : forAll (λ (p : Post). leb (p .visibility) 1) (s .posts) ≡ true
+  pub apart : (i j : ℕ) → i < length (s .users) → j < userLimit → (hasBit (userAt s i .friends) j && hasBit (userAt s i .requests) j) ≡ false
 
 -- where there are users, nothing need be empty
 pub with-users : (s : State) → 0 < length (s .users) → nothingWithoutUsers s ≡ true
@@ -61,11 +62,14 @@ module _ (s : State) where
   note-test : ℕ → ℕ → Bool
   note-test i j = hasBit (userAt s i .requests) j || eqb (length (noteAt s i j)) 0
 
+  apart-test : User → ℕ → Bool
+  apart-test u j = not (hasBit (u .friends) j && hasBit (u .requests) j)
+
   pub rules-of : keepsRules s ≡ true → Rules s
-  unfolding keepsRules numbersNotZero numbersDistinct pendingNotRegistered friendsSymmetric noOwnBit bitsBelowCount notesRequested ownersRegistered visibilityValid userAt noteAt symmetric-test own-test below-test note-test
+  unfolding keepsRules numbersNotZero numbersDistinct pendingNotRegistered friendsSymmetric noOwnBit bitsBelowCount notesRequested ownersRegistered visibilityValid friendsNotRequested userAt noteAt symmetric-test own-test below-test note-test apart-test
   rules-of e =
       let n : ℕ = length (s .users) in
-      let rule : (i : ℕ) → i < 10 → getD (nothingWithoutUsers ∷ stateClauses) i nothingWithoutUsers s ≡ true = λ i h.
+      let rule : (i : ℕ) → i < 11 → getD (nothingWithoutUsers ∷ stateClauses) i nothingWithoutUsers s ≡ true = λ i h.
       all-at (λ (r : State → Bool). r s) (nothingWithoutUsers ∷ stateClauses) i nothingWithoutUsers e h
       in
       let not-zero : List Bool = forAll (ltb 0) (userNumbers s) ∷ forAll (ltb 0) (postNumbers s) ∷ forAll (ltb 0) (pendingNumbers s) ∷ [] in
@@ -100,10 +104,13 @@ module _ (s : State) where
             ∙ below-at userLimit (note-test i) (below-at userLimit (λ (k : ℕ). allBelow userLimit (note-test k)) (rule 7 (lit< tt)) i h) j l));
         owners = rule 8 (lit< tt);
         visibilities = rule 9 (lit< tt);
+        apart = λ i j h l.
+            not-true (hasBit (userAt s i .friends) j && hasBit (userAt s i .requests) j)
+            (below-at userLimit (apart-test (userAt s i)) (all-at (λ (u : User). allBelow userLimit (apart-test u)) (s .users) i noUser (rule 10 (lit< tt)) h) j l);
       }
 
   pub keeps-rules : Rules s → keepsRules s ≡ true
-  unfolding keepsRules forAll allTrue numbersNotZero numbersDistinct pendingNotRegistered friendsSymmetric noOwnBit bitsBelowCount notesRequested ownersRegistered visibilityValid userAt noteAt symmetric-test own-test below-test note-test
+  unfolding keepsRules forAll allTrue numbersNotZero numbersDistinct pendingNotRegistered friendsSymmetric noOwnBit bitsBelowCount notesRequested ownersRegistered visibilityValid friendsNotRequested userAt noteAt symmetric-test own-test below-test note-test apart-test
   keeps-rules r =
       let n : ℕ = length (s .users) in
       and-both (r .nothing-else)
@@ -117,7 +124,9 @@ module _ (s : State) where
       and-both (lt-ltb (userAt s i .friends) (2 ^ n) (r .friends-below i h)) (lt-ltb (userAt s i .requests) (2 ^ n) (r .requests-below i h))))
       (and-both (below-by userLimit (λ (i : ℕ). allBelow userLimit (note-test i)) (λ i h. below-by userLimit (note-test i) (requested i h)))
       (and-both (r .owners)
-      (and-both (r .visibilities) refl)))))))))
+      (and-both (r .visibilities)
+      (and-both (all-by (λ (u : User). allBelow userLimit (apart-test u)) (s .users) noUser (λ i h.
+      below-by userLimit (apart-test (userAt s i)) (λ j l. ap not (r .apart i j h l)))) refl))))))))))
     where
       requested : (i : ℕ) → i < userLimit → (j : ℕ) → j < userLimit → note-test i j ≡ true
       requested i h j l =

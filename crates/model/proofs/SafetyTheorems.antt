@@ -3,13 +3,13 @@
 --     owner-registered       1. the owner of an existing post is an existing user
 --     friendship-symmetric   2. friendship is symmetric
 --     friends-distinct, requests-distinct   3. the lists of friends and of friend requests contain no duplicates
--- The fourth, that two with a pending request are not friends, does not hold here: two requests may cross, and accepting one leaves the
--- other (document 01, 0205; `regressionCases` of CaseTable has the journal).
+--     requested-not-friends  4. with a pending request between two, they are not friends
 use Prim.Native.Nat.{ℕ, zero, suc, _^_, _≤_, _<_}
 use native.Mathlib.Nat.{le-of-lt, le-refl}
+use native.Mathlib.Omega.{arith}
 use mathlib.Core.Path.{_≡_, refl, sym, ap, _∙_}
 use mathlib.Core.List.{List, [], _∷_, _++_, map, map-append, append-nil}
-use mathlib.Core.Bool.{Bool, true, false, cond, true≢false}
+use mathlib.Core.Bool.{Bool, true, false, cond, _&&_, and-true, true≢false}
 use lib.ListN.{length, getD, length-map, List·getD-map}
 use lib.Dec.{eqb, ltb}
 use borrow.Table.Steps.{cases}
@@ -17,15 +17,17 @@ use borrow.Author.Tests.{ltb-true, ltb-false}
 use Rattle.bytes.specs.Bytes.{indexOf}
 use Rattle.layout.specs.Bits.{hasBit, setPlaces}
 use Rattle.layout.proofs.BooleanLaws.{apply-cond}
-use Rattle.layout.proofs.BitLaws.{has-beyond}
+use Rattle.layout.proofs.BitLaws.{has-beyond, has-below}
 use Rattle.model.specs.Lists.{contains, distinct}
 use Rattle.model.specs.State.{User, Post, State, userLimit, noUser, noPost, userNumbers, userAt, postAt}
-use Rattle.model.specs.Lookups.{isRegistered, isPost, userSlot, postPlace, userNumbered, postNumbered, areFriends, ownerOf}
+use Rattle.model.specs.Lookups.{isRegistered, isPost, userSlot, postPlace, userNumbered, postNumbered, areFriends, hasRequested, ownerOf}
 use Rattle.model.specs.Answers.{usersIn}
 use Rattle.model.proofs.ListLaws.{all-at, contained-at, absent-add, distinct-places, distinct-add}
+use Rattle.model.proofs.RecordTheorems.{userCodec}
+use Rattle.model.proofs.TableRecordLaws.{fits-count}
 use Rattle.model.proofs.RuleLaws.{ValidState, Rules, rules-of}
 use Rattle.model.proofs.AcceptedLaws.{post-below}
-use Rattle.model.proofs.Invariant.{all-friends-below, all-requests-below, all-symmetric}
+use Rattle.model.proofs.Invariant.{all-friends-below, all-requests-below, all-symmetric, all-apart}
 
 -- ---- 1. owners
 
@@ -109,3 +111,16 @@ pub requests-distinct : (s : State) → ValidState s → (u : ℕ) → distinct 
 unfolding userNumbered
 requests-distinct s valid u =
     let rules = rules-of s (valid .keeps) in users-distinct s rules (userAt s (userSlot s u) .requests) (all-requests-below s rules (userSlot s u))
+
+-- ---- 4. requests and friendship exclude each other; so for 0205 "refusal 11 is never met" (document 02, change 2)
+
+pub requested-not-friends : (s : State) → ValidState s → (u v : ℕ) → hasRequested s v u ≡ true → areFriends s u v ≡ false
+unfolding areFriends hasRequested userNumbered
+requested-not-friends s valid u v e =
+    let rules = rules-of s (valid .keeps) in
+    let i : ℕ = userSlot s u in
+    let j : ℕ = userSlot s v in
+    let friends : Bool = hasBit (userAt s i .friends) j in
+    let there : j < length (s .users) = has-below (userAt s i .requests) (length (s .users)) j (all-requests-below s rules i) e in
+    sym (and-true friends) ∙ ap (λ (t : Bool). friends && t) (sym e)
+    ∙ all-apart s rules i j (omega (arith, fits-count userCodec userLimit (s .users) (valid .fits .users)))

@@ -14,11 +14,11 @@ use Rattle.model.specs.State.{emptyState, userNumbers, postNumbers, pend
 use Rattle.model.specs.Actions.{actionNamed, actionFrom, actionOf}
 use Rattle.model.specs.Lookups.{isRegistered, isPost, isPending, userSlot, postPlace, pendingPlace, userNumbered, postNumbered, areFriends, hasRequested, noteOfRequest, ownerOf, isOwner, mayRead}
 use Rattle.model.specs.Refusals.{causeNumber, rightOf, lacksRight, afterLogin, postRows, userRows, pendingRows, changeRefusals, queryRefusals, firstCause}
-use Rattle.model.specs.Changes.{addUser, updateUser, updatePost, setNote, addRequest, removeRequest, addFriends, removeFriends, acceptRequest, applyChange}
+use Rattle.model.specs.Changes.{addUser, updateUser, updatePost, setNote, addRequest, removeRequest, addFriends, removeFriends, removeRequests, acceptRequest, applyChange}
 use Rattle.model.specs.Answers.{countedList, staffList, postEntry, usersIn, answerBody}
 use Rattle.model.specs.Step.{respond, stepAction, stepState}
 use Rattle.model.specs.Replay.{framesIn, framesOf, runFrames, runOf}
 
 unfoldable pub stepDefinitions : Unit {0}
-unfolding flatten indexOf bytesAt toLeBytes fromLeBytes isString stringBytes bitAt hasBit setBit clearBit setPlaces lengthField frameLengthUpTo isFrame kindOf bodyOf frameBytes fieldFits fieldEnd fieldValue fieldsFit fieldValues kinds fieldsIn kindFields bodyContent messageContent contains removeAt emptyState userNumbers postNumbers pendingNumbers userAt postAt pendingAt notesTo noteAt isAdmin valueNumber valueString actionNamed actionFrom actionOf isRegistered isPost isPending userSlot postPlace pendingPlace userNumbered postNumbered areFriends hasRequested noteOfRequest ownerOf isOwner mayRead causeNumber rightOf lacksRight afterLogin postRows userRows pendingRows changeRefusals queryRefusals firstCause addUser updateUser updatePost setNote addRequest removeRequest addFriends removeFriends acceptRequest applyChange countedList staffList postEntry usersIn answerBody respond stepAction stepState framesIn framesOf runFrames runOf
+unfolding flatten indexOf bytesAt toLeBytes fromLeBytes isString stringBytes bitAt hasBit setBit clearBit setPlaces lengthField frameLengthUpTo isFrame kindOf bodyOf frameBytes fieldFits fieldEnd fieldValue fieldsFit fieldValues kinds fieldsIn kindFields bodyContent messageContent contains removeAt emptyState userNumbers postNumbers pendingNumbers userAt postAt pendingAt notesTo noteAt isAdmin valueNumber valueString actionNamed actionFrom actionOf isRegistered isPost isPending userSlot postPlace pendingPlace userNumbered postNumbered areFriends hasRequested noteOfRequest ownerOf isOwner mayRead causeNumber rightOf lacksRight afterLogin postRows userRows pendingRows changeRefusals queryRefusals firstCause addUser updateUser updatePost setNote addRequest removeRequest addFriends removeFriends removeRequests acceptRequest applyChange countedList staffList postEntry usersIn answerBody respond stepAction stepState framesIn framesOf runFrames runOf
 stepDefinitions = tt

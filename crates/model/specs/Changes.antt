@@ -47,9 +47,13 @@ addFriends s i j = writeFriend setBit (writeFriend setBit s i j) j i
 unfoldable pub removeFriends : State → ℕ → ℕ → State
 removeFriends s i j = writeFriend clearBit (writeFriend clearBit s i j) j i
 
--- 0205, "it is removed and both become friends": a request from slot i to slot j stays
+-- "0205 removes the requests both ways, with their notes" (document 02, change 2): those of slots i and j to each other
+unfoldable pub removeRequests : State → ℕ → ℕ → State
+removeRequests s i j = removeRequest (removeRequest s i j) j i
+
+-- 0205: "both become friends"
 unfoldable pub acceptRequest : State → ℕ → ℕ → State
-acceptRequest s i j = addFriends (removeRequest s i j) i j
+acceptRequest s i j = addFriends (removeRequests s i j) i j
 
 -- ---- the change of each kind
 

@@ -10,3 +10,4 @@ pub mod Changes
 pub mod Answers
 pub mod Step
 pub mod Replay
+pub mod Requests

@@ -98,7 +98,7 @@ changeRefusals s (cUser u p v p2) = pendingRows s 0x0202 u p v ((usersFull, leb 
 changeRefusals s (cPost u p n title) = afterLogin s u p ((postNumberUsed, isPost s n) ∷ (postsFull, leb postLimit (length (s .posts))) ∷ [])  -- 0203
 changeRefusals s (cFriendReq u p v note) =  -- 0204
     userRows s u p v ((requestToSelf, eqb u v) ∷ (alreadyFriends, areFriends s u v) ∷ (alreadyRequested, hasRequested s u v) ∷ [])
-changeRefusals s (cFriend u p v) = userRows s u p v ((requestMissing, not (hasRequested s v u)) ∷ (alreadyFriends, areFriends s u v) ∷ [])  -- 0205
+changeRefusals s (cFriend u p v) = userRows s u p v ((requestMissing, not (hasRequested s v u)) ∷ [])  -- 0205
 changeRefusals s (dFriend u p v) = userRows s u p v ((friendshipMissing, not (areFriends s u v)) ∷ [])  -- 0301
 changeRefusals s (uUser u p p2 name info) = afterLogin s u p []  -- 0401
 changeRefusals s (uTitlePost u p n title) = postRows s 0x0402 u p n

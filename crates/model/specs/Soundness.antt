@@ -1,5 +1,5 @@
 -- "A board is sound if ..", clause by clause and in the paper's order: those about bytes are tests of the board's records, those about
--- what the bytes mean are tests of the state, and the last is a test of the whole board again.
+-- what the bytes mean are tests of the state, with those of document 02 behind them, and the last is a test of the whole board again.
 use Prim.Native.Nat.{ℕ, _^_}
 use mathlib.Core.List.{List, [], _∷_, _++_, map}
 use mathlib.Core.Bool.{Bool, not, _&&_, _||_}
@@ -84,6 +84,11 @@ ownersRegistered s = forAll (λ (p : Post). ltb (p .owner) (length (s .users))) 
 unfoldable pub visibilityValid : State → Bool
 visibilityValid s = forAll (λ (p : Post). leb (p .visibility) 1) (s .posts)
 
+-- "Friends with a request between them are no longer a sound board" (document 02, change 2). Friend rows are symmetric, so a bit in both
+-- rows of one of the two shows it, whoever has requested whom.
+unfoldable pub friendsNotRequested : State → Bool
+friendsNotRequested s = forAll (λ (u : User). allBelow userLimit (λ (j : ℕ). not (hasBit (u .friends) j && hasBit (u .requests) j))) (s .users)
+
 -- ---- soundness
 
 abbrev pub recordClauses : List (BoardRecords → Bool)
@@ -103,7 +108,8 @@ stateClauses =
     ∷ bitsBelowCount
     ∷ notesRequested
     ∷ ownersRegistered
-    ∷ visibilityValid ∷ []
+    ∷ visibilityValid
+    ∷ friendsNotRequested ∷ []
 
 -- "with n = 0 all bytes are zero"
 unfoldable pub zeroWithoutUsers : List ℕ → Bool

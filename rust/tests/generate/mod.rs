@@ -279,7 +279,7 @@ fn set_length(message: &mut [u8]) {
     message[..2].copy_from_slice(&length.to_le_bytes());
 }
 
-/// A state such as no journal may lead to: friends with requests between them, numbers of any size, any owners.
+/// A random sound state: numbers of any size, strings of any bytes, any owners.
 pub fn any_state(random: &mut Random) -> State {
     let count = |random: &mut Random, limit: usize| match random.below(4) {
         0 => limit,
@@ -317,16 +317,18 @@ pub fn any_state(random: &mut Random) -> State {
         let note = random.string(24);
         state.pending.push(Pending { number, note });
     }
-    let rarity = 1 + random.below(8);
+    let (friends, requests) = (1 + random.below(8), 1 + random.below(8));
     for i in 0..users {
-        for j in 0..users {
+        for j in 0..i {
             let (a, b) = (state.users[i].number, state.users[j].number);
-            if j < i && random.once_in(rarity) {
+            if random.once_in(friends) {
                 state.friends.extend([(a, b), (b, a)]);
+                continue;
             }
-            if j != i && random.once_in(rarity) {
-                let note = random.string(24);
-                state.requests.insert((a, b), note);
+            for pair in [(a, b), (b, a)] {
+                if random.once_in(requests) {
+                    state.requests.insert(pair, random.string(24));
+                }
             }
         }
     }

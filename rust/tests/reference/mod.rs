@@ -1,5 +1,5 @@
-//! Document 01 in plain safe Rust, to compare the kernel with: written from the paper alone, with structures and maps where the kernel has bytes at
-//! offsets. A board is read and written from its first byte to its last, and a message field by field.
+//! Documents 01 and 02 in plain safe Rust, to compare the kernel with: written from the papers alone, with structures and maps where the kernel has
+//! bytes at offsets. A board is read and written from its first byte to its last, and a message field by field.
 #![allow(dead_code)] // each test uses a part of it
 
 use std::collections::{BTreeMap, BTreeSet};
@@ -225,7 +225,8 @@ fn read_sound(board: &[u8]) -> Option<bool> {
     let row_fits = |i: usize, row: u32| !has_bit(row, i) && (n..USERS).all(|j| !has_bit(row, j));
     let rows_fit = (0..n).all(|i| row_fits(i, friends[i]) && row_fits(i, requests[i]));
     let symmetric = (0..n).all(|i| (0..n).all(|j| has_bit(friends[i], j) == has_bit(friends[j], i)));
-    Some(rows_fit && symmetric && are_distinct(&staff[..n + k]) && are_distinct(&posts[..m]))
+    let apart = (0..n).all(|i| friends[i] & requests[i] == 0);
+    Some(rows_fit && symmetric && apart && are_distinct(&staff[..n + k]) && are_distinct(&posts[..m]))
 }
 
 impl State {
@@ -507,10 +508,8 @@ impl State {
                 if !self.has_requested(v, u) {
                     return Err(9);
                 }
-                if self.are_friends(u, v) {
-                    return Err(11);
-                }
                 self.requests.remove(&(v, u));
+                self.requests.remove(&(u, v));
                 self.friends.extend([(u, v), (v, u)]);
             }
             Change::EndFriendship(v) => {

@@ -1,8 +1,7 @@
--- `end_friendship` meets its contract: it tests the rows of 0301 one after the other, and clears the bit of the other in the friend row of each
--- of the two slots.
-use Prim.Native.Nat.{ℕ, _+_, _*_}
+-- `end_friendship` meets its contract: it tests the rows of 0301 one after the other, and ends the friendship of the two slots.
+use Prim.Native.Nat.{ℕ}
 use native.Mathlib.Omega.{arith}
-use mathlib.Core.Path.{_≡_, refl, sym, ap, ap₂, _∙_}
+use mathlib.Core.Path.{_≡_, sym, ap, ap₂, _∙_}
 use mathlib.Core.List.{[]}
 use mathlib.Core.Bool.{not}
 use borrow.Author.Needs.{needs}
@@ -15,7 +14,6 @@ use Rattle.model.specs.Refusals.{afterLogin, userRows, changeRefusals, causeNum
 use Rattle.model.proofs.ChangeWrites.{friendsWritten, writes-dFriend}
 use Rattle.model.proofs.SoundBoards.{sound-length}
 use Rattle.access.proofs.AcceptedPlaces.{SlotWithin, slots-within}
-use Rattle.changes.proofs.BoardWrites.{then-bit}
 use Rattle.changes.proofs.ChangeRows.{RowsBehind, all-rows, refused-here, passed-here, refused-first, passed-first, accepted-here}
 use Rattle.changes.proofs.deletions.end_friendship.Statement.{statement}
 use Rattle.changes.proofs.deletions.end_friendship.Tie as tie
@@ -52,10 +50,6 @@ behind-users : (c : tie.Else1) → let a = start1 c .args in RowsBehind (a .boar
 unfolding changeRefusals userRows afterLogin
 behind-users c = passed-first (userRows _ _ _ _ []) _ (all-rows _ _) (c .before .user-refusal .ensures) (c .if1 .left)
 
--- the last test, from behind the first write
-abbrev test1 : tie.After-clear-row-bit → tie.Else2
-test1 c = c .before .before .before
-
 returns : tie.Need-returns
 unfolding changeRefusals userRows afterLogin
 returns c = refused-first (userRows _ _ _ _ []) _ (all-rows _ _) (c .before .user-refusal .ensures) (c .if1 .taken)
@@ -64,47 +58,25 @@ returns-2 : tie.Need-returns-2
 unfolding changeRefusals userRows afterLogin causeNumber
 returns-2 c = refused-here (behind-users (c .before .before .before)) (ap not (sym (friends-tested (c .before))) ∙ c .if2 .taken)
 
-friends-at-requires : tie.Need-friends-at-requires
-friends-at-requires c κs = let h = slots-found (passed2 (c .before)) in omega arith
-
-clear-row-bit-requires : tie.Need-clear-row-bit-requires
-clear-row-bit-requires c κs =
-    let passed = passed2 (c .before .before) in
+remove-friends-requires : tie.Need-remove-friends-requires
+remove-friends-requires c κs =
+    let passed = passed2 (c .before) in
     let h = slots-found passed in
-    let l = sound-length (start1 passed .pre) in
-    let at = c .friends-at .ensures in
-    omega arith
-
-friends-at-requires-2 : tie.Need-friends-at-requires-2
-friends-at-requires-2 c κs = let h = slots-found (passed2 (test1 (c .before .before .before))) in omega arith
-
-clear-row-bit-requires-2 : tie.Need-clear-row-bit-requires-2
-clear-row-bit-requires-2 c κs =
-    let passed = passed2 (test1 (c .before .before .before .before)) in
-    let h = slots-found passed in
-    let l = sound-length (start1 passed .pre) in
-    let at = c .friends-at2 .ensures in
-    omega arith
+    (h .0 .room, h .1 .room, sound-length (start1 passed .pre))
 
 returns-3 : tie.Need-returns-3
 unfolding changeRefusals userRows afterLogin
 returns-3 c =
-    let second = c .before .before in
-    let first = second .before .before .before .before .before in
-    let test = test1 first in
+    let removed = c .before .before in
+    let test = removed .before .before in
     let passed = passed2 test in
     let start = start1 passed in
     let a = start .args in
-    let i = sender passed .user-slot .result in
-    let j = other passed .user-slot2 .result in
-    let same-i = sender passed .user-slot .ensures in
-    let same-j = other passed .user-slot2 .ensures in
     let h = slots-found passed in
-    let one = then-bit refl (16 + i * 104 + 12) (first .before .friends-at .ensures) clearBit j (first .clear-row-bit .ensures) in
-    let both = then-bit one (16 + j * 104 + 12) (second .before .friends-at2 .ensures) clearBit i (second .clear-row-bit2 .ensures) in
     accepted-here
     (passed-here (behind-users passed) (ap not (sym (friends-tested (test .before))) ∙ test .if2 .left))
-    (both ∙ ap₂ (λ (x y : ℕ). friendsWritten clearBit (a .board .now) x y) same-i same-j)
+    (removed .remove-friends .ensures
+    ∙ ap₂ (λ (x y : ℕ). friendsWritten clearBit (a .board .now) x y) (sender passed .user-slot .ensures) (other passed .user-slot2 .ensures))
     (writes-dFriend (start .pre .encoded) (a .login .user) (a .login .password) (a .v) (omega arith) (omega arith))
 
 pub end-friendship-spec : {M : Type 1} → statement M
@@ -119,9 +91,6 @@ end-friendship-spec =
     (λ c κs. search needs)
     (λ c. search needs)
     returns-2
-    friends-at-requires
-    clear-row-bit-requires
-    friends-at-requires-2
-    clear-row-bit-requires-2
+    remove-friends-requires
     (λ c. search needs)
     returns-3)

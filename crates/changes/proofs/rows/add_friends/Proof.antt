@@ -1,0 +1,29 @@
+-- `add_friends` meets its contract: it sets the bit of the other in the friend row of each of the two slots.
+use Prim.Native.Nat.{ℕ, _+_, _*_}
+use mathlib.Core.Path.{refl}
+use borrow.Author.Needs.{needs}
+use Rattle.layout.specs.Bits.{setBit}
+use Rattle.changes.proofs.BoardWrites.{then-bit}
+use Rattle.changes.proofs.rows.add_friends.Statement.{statement}
+use Rattle.changes.proofs.rows.add_friends.Tie as tie
+
+returns : tie.Need-returns
+returns c =
+    let second = c .before .before in
+    let first = second .before .before .before .before .before in
+    let entry = first .before .before .before .before in
+    let i : ℕ = entry .args .i in
+    let j : ℕ = entry .args .j in
+    let one = then-bit refl (16 + i * 104 + 12) (first .before .friends-at .ensures) setBit j (first .set-row-bit .ensures) in
+    then-bit one (16 + j * 104 + 12) (second .before .friends-at2 .ensures) setBit i (second .set-row-bit2 .ensures)
+
+pub add-friends-spec : {M : Type 1} → statement M
+add-friends-spec =
+    tie.close
+    (tie.spec
+    (λ c κs. search needs)
+    (λ c κs. search needs)
+    (λ c κs. search needs)
+    (λ c κs. search needs)
+    (λ c. search needs)
+    returns)
