@@ -448,7 +448,7 @@ refusalTable =
     -- "0402 to 0405: not the owner; 0504 to 0507, 0606: not entitled"
     ∷ (10, 0x0402 ∷ 0x0403 ∷ 0x0404 ∷ 0x0405 ∷ 0x0504 ∷ 0x0505 ∷ 0x0506 ∷ 0x0507 ∷ 0x0606 ∷ [])
     -- "0201: registered or pending; 0203: post number used; 0204: V is U, already friends, or U's request is pending"; "for 0205 refusal 11
-    -- is never met" (document 02, change 2; `requested-not-friends` of SafetyTheorems)
+    -- is never met" (document 02, change 2; `never-eleven` of RequestTheorems)
     ∷ (11, 0x0201 ∷ 0x0203 ∷ 0x0204 ∷ [])
     -- "0201 with 16 pending, 0202 with 32 users, 0203 with 64 posts"
     ∷ (12, 0x0201 ∷ 0x0202 ∷ 0x0203 ∷ [])

@@ -26,7 +26,7 @@ RequestsRemoved =
     → let r : Response State = stepState msg (decode b) in
     r .number ≡ 0 → (areFriends (r .state) u v ≡ true) × (NoRequest (r .state) u v × NoRequest (r .state) v u)
 
--- so between friends 0205 gives 9: there is no request to accept
+-- so a registered sender with the right password gets 9 for a 0205 between friends: there is no request to accept
 unfoldable pub NineBetweenFriends : Type 0
 NineBetweenFriends =
     (msg b : List ℕ) (u p v : ℕ) → areBytes b ≡ true → isSound b ≡ true → actionOf msg ≡ change (cFriend u p v)

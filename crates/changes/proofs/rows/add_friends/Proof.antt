@@ -1,9 +1,7 @@
 -- `add_friends` meets its contract: it sets the bit of the other in the friend row of each of the two slots.
-use Prim.Native.Nat.{ℕ, _+_, _*_}
-use mathlib.Core.Path.{refl}
 use borrow.Author.Needs.{needs}
 use Rattle.layout.specs.Bits.{setBit}
-use Rattle.changes.proofs.BoardWrites.{then-bit}
+use Rattle.changes.proofs.BoardWrites.{then-friends}
 use Rattle.changes.proofs.rows.add_friends.Statement.{statement}
 use Rattle.changes.proofs.rows.add_friends.Tie as tie
 
@@ -11,11 +9,9 @@ returns : tie.Need-returns
 returns c =
     let second = c .before .before in
     let first = second .before .before .before .before .before in
-    let entry = first .before .before .before .before in
-    let i : ℕ = entry .args .i in
-    let j : ℕ = entry .args .j in
-    let one = then-bit refl (16 + i * 104 + 12) (first .before .friends-at .ensures) setBit j (first .set-row-bit .ensures) in
-    then-bit one (16 + j * 104 + 12) (second .before .friends-at2 .ensures) setBit i (second .set-row-bit2 .ensures)
+    let a = first .before .before .before .before .args in
+    then-friends setBit (a .b .now) (a .i) (a .j) (first .before .friends-at .ensures) (first .set-row-bit .ensures)
+    (second .before .friends-at2 .ensures) (second .set-row-bit2 .ensures)
 
 pub add-friends-spec : {M : Type 1} → statement M
 add-friends-spec =
