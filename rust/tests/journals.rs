@@ -71,5 +71,20 @@ fn digests_are_those_known() {
         assert!(other_board == board && other_answers == answers, "{name}, reference");
         count += 1;
     }
-    assert_eq!(count, 14);
+    assert_eq!(count, 15);
+}
+
+/// The gate runs `answers` on copies of the journals, since it follows no link.
+#[test]
+fn copies_are_the_journals() {
+    let crates = Path::new(env!("CARGO_MANIFEST_DIR")).join("../crates");
+    let names = std::fs::read_to_string(crates.join("answers/args")).expect("the names of the journals");
+    let mut count = 0;
+    for name in names.lines() {
+        let copy = std::fs::read(crates.join("answers/data").join(name)).expect("a copy");
+        let journal = std::fs::read(crates.join("journals/data").join(name)).expect("a journal");
+        assert!(copy == journal, "{name}");
+        count += 1;
+    }
+    assert_eq!(count, 13);
 }

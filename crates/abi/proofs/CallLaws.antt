@@ -3,7 +3,7 @@ use Prim.Native.Nat.{ℕ, _+_, _*_, _/_, _%_, _≤_, _<_}
 use native.Mathlib.Omega.{arith}
 use mathlib.Core.Path.{_≡_, refl, sym, ap, _∙_}
 use mathlib.Core.List.{List, _++_, append-assoc, append-nil}
-use mathlib.Core.Bool.{Bool, true, cond}
+use mathlib.Core.Bool.{true}
 use lib.ListN.{length, length-append, drop-of-length-le}
 use lib.Pow.{areBytes}
 use borrow.Author.Tests.{eq-eqb, ne-eqb}
@@ -83,22 +83,25 @@ counts-written c x h =
     ∙ ap (λ (y : List ℕ). m ++ p ++ w ++ y) (drop-of-length-le c {i = length (m ++ p ++ w)} (omega arith))
     ∙ append-nil (m ++ p ++ w) ∙ append-assoc m p w
 
+-- counts of another length, and counts of 24 bytes
 pub counts-refused : (j b o c : List ℕ) → (length c ≡ countsSize → ⊥) → replayCalled wrongCounts b o c ≡ replayCallOf j b o c
 unfolding replayCallOf
 counts-refused j b o c n = rw (ne-eqb (length c) countsSize n) refl
+
+pub counts-accepted : (j b o c : List ℕ) → length c ≡ countsSize → let x : ReplayResult = replayOf j b o in
+    replayCalled (x .stop) (x .board) (x .buffer) (countBytes x) ≡ replayCallOf j b o c
+unfolding replayCallOf
+counts-accepted j b o c h = rw (eq-eqb (length c) countsSize h) refl
 
 module _ (j b o c : List ℕ) (r : Replayed) {b′ o′ c₁ c₂ c₃ : List ℕ} {n : ℕ} where
   pub replay-called : length c ≡ countsSize → replayed r b′ o′ ≡ replayOf j b o → c₁ ≡ writeAt c 0 (toLeBytes 8 (r .messages))
       → c₂ ≡ writeAt c₁ 8 (toLeBytes 8 (r .passed)) → c₃ ≡ writeAt c₂ 16 (toLeBytes 8 (r .written)) → n ≡ stopNumber (r .stop)
       → replayCalled n b′ o′ c₃ ≡ replayCallOf j b o c
-  unfolding replayCallOf
   replay-called h done e₁ e₂ e₃ stop =
-      let x : ReplayResult = replayOf j b o in
       let counts : c₃ ≡ countBytes (replayed r b′ o′) =
       e₃ ∙ ap (λ (y : List ℕ). writeAt y 16 (toLeBytes 8 (r .written))) (e₂ ∙ ap (λ (y : List ℕ). writeAt y 8 (toLeBytes 8 (r .passed))) e₁)
       ∙ counts-written c (replayed r b′ o′) h
       in
       (λ i. replayCalled (stop i) b′ o′ (counts i))
       ∙ (λ i. replayCalled (done i .stop) (done i .board) (done i .buffer) (countBytes (done i)))
-      ∙ sym (ap (λ (t : Bool). cond t (replayCalled (x .stop) (x .board) (x .buffer) (countBytes x)) (replayCalled wrongCounts b o c))
-      (eq-eqb (length c) countsSize h))
+      ∙ counts-accepted j b o c h

@@ -4,7 +4,8 @@ use mathlib.Core.List.{List, _++_}
 use mathlib.Core.Bool.{cond}
 use lib.ListN.{length}
 use lib.Dec.{eqb}
-use Rattle.layout.specs.Numbers.{toLeBytes}
+use Rattle.layout.specs.Bytes.{bytesAt}
+use Rattle.layout.specs.Numbers.{toLeBytes, fromLeBytes}
 use Rattle.model.specs.Step.{StepResult}
 use Rattle.model.specs.Replay.{ReplayResult, replayOf}
 use Rattle.writer.specs.Encoding.{WriteResult}
@@ -41,3 +42,14 @@ unfoldable pub replayCallOf : List ℕ → List ℕ → List ℕ → List ℕ �
 replayCallOf j b o c =
     let x : ReplayResult = replayOf j b o in
     cond (eqb (length c) countsSize) (replayCalled (x .stop) (x .board) (x .buffer) (countBytes x)) (replayCalled wrongCounts b o c)
+
+-- the result of a replay as its caller reads it from the number returned, the board, the answer buffer and the counts
+abbrev pub callResult : ℕ → List ℕ → List ℕ → List ℕ → ReplayResult
+callResult r b o c = record {
+  stop = r;
+  messages = fromLeBytes (bytesAt c 0 8);
+  passed = fromLeBytes (bytesAt c 8 8);
+  written = fromLeBytes (bytesAt c 16 8);
+  board = b;
+  buffer = o;
+}

@@ -18,5 +18,6 @@ pub mod TextUnwinding
 pub mod ConfidentialityTheorems
 pub mod JournalTheorems
 pub mod Witnesses
+pub mod Openings
 pub mod LeakyKernels
 pub mod WrongKernels

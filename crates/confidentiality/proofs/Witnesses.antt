@@ -1,25 +1,28 @@
 -- Journals on which the claim is computed, from the empty state. 7 is the admin and 9 owns post 50; the set is {7} unless said otherwise.
--- A pair that the claim speaks of, with updates purged, an opening and a text that is read:
---     opened-differ, opened-agree   all its hypotheses hold
---     opened-windows                an opening in each, and the last texts before it
---     opened-observed               what the set observes
---     opened-replayed               so do the replays, in any buffers with room
--- Pairs that break one hypothesis alone, and that the set tells apart:
+-- Openings has pairs that meet all hypotheses. These break one alone, and the set tells them apart:
 --     last-texts-needed       the last texts before an opening are the same
+--     both-or-neither-needed  .. and both journals have an update before it or neither has
 --     common-last-texts, all-updates-needed   .. of all updates of the window, not of the purged ones only
 --     refused-last-texts, accepted-updates-needed   .. of accepted updates only
---     closed-needed           a purged update is met while the post is closed
---     number-needed           .. has the number of the post
+--     friends-needed          a purged update is met while nobody of the set is a friend of the owner
+--     owner-needed            .. nobody of the set is the owner
+--     visibility-needed       .. the post is not public
+--     number-needed           a purged update has the number of the post
+--     kind-needed             .. is a 0403
 --     accepted-needed         .. is accepted
 --     bytes-needed            the same bytes remain
 --     room-needed             the replays have room to their ends (one journal, two buffers)
+--     open-told-apart, empty-board-needed   the runs begin at the empty state, not at one in which the post is open
+--     left-board-told-apart   .. the replays on the empty board, not on the board that another replay left
+-- Of any step:
+--     refuted                 the claim is false if a pair meets the hypotheses and is told apart
 -- Values:
 --     rest-compared           journals with the same frames and other bytes behind them do not differ only in updates
 --     unmarked-remain         where the marks end nothing is purged
 --     observed-senders        who sends a message
 --     closed-by-owner, closed-by-visibility, registration-opens   to whom a post is closed
 --     window-values           the windows of a journal
-use Prim.Native.Nat.{ℕ, _+_, _*_, _≤_}
+use Prim.Native.Nat.{ℕ, _-_}
 use mathlib.Core.Path.{_≡_, refl, sym, ap, subst}
 use mathlib.Core.List.{List, [], _∷_, _++_, map, flatten, zipWith}
 use mathlib.Core.Bool.{Bool, true, false, cond, _||_, true≢false}
@@ -27,22 +30,25 @@ use mathlib.Core.Option.{Option, some, none, Option·getD}
 use lib.ListN.{length, getD}
 use lib.Dec.{eqb}
 use borrow.Author.Tests.{eqb-false}
-use Rattle.reader.specs.Messages.{messageContent}
-use Rattle.model.specs.State.{emptyState}
-use Rattle.model.specs.Board.{emptyBoard}
-use Rattle.model.specs.Step.{answerLimit, stepState}
-use Rattle.model.specs.Replay.{framesOf, stopped, replayIn, replayOf}
+use Rattle.reader.specs.Messages.{Content, messageContent}
+use Rattle.model.specs.State.{State, emptyState}
+use Rattle.model.specs.Board.{encode, emptyBoard}
+use Rattle.model.specs.Step.{Response, stepState}
+use Rattle.model.specs.Replay.{runOf, ReplayResult, stopped, replayIn, replayOf}
+use Rattle.model.proofs.JournalLaws.{lastState}
 use Rattle.model.proofs.SoundnessTheorems.{empty-sound}
+use Rattle.model.proofs.Invariant.{empty-valid, reached-valid}
+use Rattle.model.proofs.EmptyBoard.{empty-encoded}
+use Rattle.model.proofs.ReplayTheorems.{replay-complete}
 use Rattle.model.proofs.CaseTable.{message, login, target, targetString, registrationRequest, registration, visibilityUpdate}
 use Rattle.confidentiality.specs.Traces.{Event, Trace, runTrace, isAccepted, answersIn, replayTrace}
-use Rattle.confidentiality.specs.History.{History, afterEvent, isAbout, textField, closedTo, isTextUpdate}
+use Rattle.confidentiality.specs.History.{History, afterEvent, isKind, isAbout, targetField, textField, closedTo, isTextUpdate}
 use Rattle.confidentiality.specs.Windows.{Marked, Window, windows, AgreeAtOpenings}
 use Rattle.confidentiality.specs.Purging.{mark, remaining, purgedWhileClosed, DifferOnly}
 use Rattle.confidentiality.specs.Confidentiality.{lastText, SameLastText, observed, Noninterference, Confidential}
 use Rattle.confidentiality.specs.Accountability.{historyOf}
 use Rattle.confidentiality.proofs.Definitions.{claimDefinitions}
-use Rattle.confidentiality.proofs.ReplayTraces.{replay-trace}
-use Rattle.confidentiality.proofs.ConfidentialityTheorems.{confidential, empty-room}
+use Rattle.confidentiality.proofs.ReplayTraces.{valid-trace, replay-trace}
 
 -- ---- messages and journals
 
@@ -69,24 +75,54 @@ onlyUser v u = eqb u v
 abbrev pub staffed : List (List ℕ)
 staffed = login 0x0101 7 1 ∷ registrationRequest 9 [] ∷ registration 7 1 9 3 ∷ []
 
+abbrev pub makePost : List ℕ
+makePost = targetString 0x0203 9 3 50 []
+
 abbrev pub created : List (List ℕ)
-created = staffed ++ (targetString 0x0203 9 3 50 [] ∷ [])
+created = staffed ++ (makePost ∷ [])
+
+-- .. and makes it public
+abbrev pub makePublic : List ℕ
+makePublic = visibilityUpdate 9 3 50 1
+
+abbrev pub published : List (List ℕ)
+published = created ++ (makePublic ∷ [])
 
 -- 9 gives post 50 a text of one byte
 abbrev pub setText : ℕ → List ℕ
 setText x = targetString 0x0403 9 3 50 (x ∷ [])
 
--- 7 and 9 become friends
+-- 7 and 9 become friends, and 7 ends it
 abbrev pub befriend : List (List ℕ)
 befriend = targetString 0x0204 7 1 9 [] ∷ target 0x0205 9 3 7 ∷ []
+
+abbrev pub endFriendship : List ℕ
+endFriendship = target 0x0301 7 1 9
 
 -- 7 asks for the text of post 50
 abbrev pub readText : List ℕ
 readText = target 0x0505 7 1 50
 
--- they become friends, and 7 asks
+-- 7 registers 8 with password 2, and 8 or 9 asks for it
+abbrev pub register8 : List (List ℕ)
+register8 = registrationRequest 8 [] ∷ registration 7 1 8 2 ∷ []
+
+abbrev pub readBy8 : List ℕ
+readBy8 = target 0x0505 8 2 50
+
+abbrev readBy9 : List ℕ
+readBy9 = target 0x0505 9 3 50
+
+-- 7 and 9 become friends, and 7 asks
 abbrev pub opening : MarkedJournal
 opening = map retain (befriend ++ (readText ∷ []))
+
+-- 65, purged, between the messages before it and a last one, and the same without it
+abbrev pub purgedText : List (List ℕ) → List ℕ → MarkedJournal
+purgedText before last = map retain before ++ (purge (setText 65) ∷ retain last ∷ [])
+
+abbrev pub noText : List (List ℕ) → List ℕ → MarkedJournal
+noText before last = map retain (before ++ (last ∷ []))
 
 -- ---- the hypotheses and the conclusion of the claim
 
@@ -99,25 +135,39 @@ markedEvents j = mark (marksOf j) (traceOf j .events)
 abbrev pub remainingBytes : MarkedJournal → List ℕ
 remainingBytes j = flatten (remaining (markedEvents j)) ++ traceOf j .rest
 
--- of each purged message: whether it is accepted, whether it is a 0403 with the number of the post, whether the post is closed before it
-unfoldable pub purgingTests : (ℕ → Bool) → ℕ → History → List Marked → List (Bool × Bool × Bool)
+-- of a purged message: whether it is accepted, whether it is a 0403, whether it has the number of the post, whether the post is closed before it
+abbrev pub PurgingTests : Type 0
+PurgingTests = Bool × Bool × Bool × Bool
+
+unfoldable pub purgingTests : (ℕ → Bool) → ℕ → History → List Marked → List PurgingTests
 purgingTests observers n h [] = []
 purgingTests observers n h (c ∷ cs) =
-    let later : List (Bool × Bool × Bool) = purgingTests observers n (afterEvent h (c .event)) cs in
-    cond (c .purged) ((c .event .accepted, isAbout 0x0403 n (messageContent (c .event .frame)), closedTo observers n h) ∷ later) later
+    let m : Content = messageContent (c .event .frame) in
+    let later : List PurgingTests = purgingTests observers n (afterEvent h (c .event)) cs in
+    cond (c .purged) ((c .event .accepted, isKind 0x0403 m, eqb (targetField m) n, closedTo observers n h) ∷ later) later
 
 module _ (observers : ℕ → Bool) (n : ℕ) where
   abbrev pub mayBePurged : MarkedJournal → Bool
   mayBePurged j = purgedWhileClosed (closedTo observers n) (isTextUpdate n) [] (markedEvents j)
 
+  abbrev pub windowsIn : List Bool → Trace → List Window
+  windowsIn marks t = windows (closedTo observers n) (isTextUpdate n) [] [] (mark marks (t .events))
+
   abbrev pub windowsOf : MarkedJournal → List Window
-  windowsOf j = windows (closedTo observers n) (isTextUpdate n) [] [] (markedEvents j)
+  windowsOf j = windowsIn (marksOf j) (traceOf j)
 
   abbrev pub lastTexts : MarkedJournal → List (Option (List ℕ))
   lastTexts j = map (λ (w : Window). lastText (w .updates)) (windowsOf j)
 
   abbrev pub openingsOf : MarkedJournal → List Bool
   openingsOf j = map (λ (w : Window). w .opens) (windowsOf j)
+
+  -- the traces meet the hypotheses on what is purged and on openings, and the set tells them apart
+  abbrev pub ToldApart : List Bool → List Bool → Trace → Trace → Type 0
+  ToldApart marks₁ marks₂ t₁ t₂ =
+      DifferOnly (closedTo observers n) (isTextUpdate n) t₁ t₂ marks₁ marks₂
+      × AgreeAtOpenings SameLastText (windowsIn marks₁ t₁) (windowsIn marks₂ t₂)
+      × (observed observers (t₁ .events) ≡ observed observers (t₂ .events) → ⊥)
 
   module _ (j₁ j₂ : MarkedJournal) where
     abbrev pub JournalsDiffer : Type 0
@@ -134,7 +184,7 @@ module _ (observers : ℕ → Bool) (n : ℕ) where
     LastTextsFail = JournalsDiffer × (WindowsAgree → ⊥) × (SameObserved → ⊥)
 
     -- only the condition on what is purged fails, by these tests of the one message that is purged in the first journal
-    abbrev pub PurgingFails : Bool × Bool × Bool → Type 0
+    abbrev pub PurgingFails : PurgingTests → Type 0
     PurgingFails tests =
         (purgingTests observers n [] (markedEvents j₁) ≡ tests ∷ []) × (mayBePurged j₁ ≡ false) × (mayBePurged j₂ ≡ true)
         × (remainingBytes j₁ ≡ remainingBytes j₂) × WindowsAgree × (SameObserved → ⊥)
@@ -143,49 +193,43 @@ module _ (observers : ℕ → Bool) (n : ℕ) where
 pub told-apart : {A : Type 0} (f : A → ℕ) (x y : A) → eqb (f x) (f y) ≡ false → x ≡ y → ⊥
 told-apart f x y d e = eqb-false (f x) (f y) d (ap f e)
 
--- the windows agree if there is one in each and no opening follows the first
-pub no-opening : {A B : Type 0} → (false ≡ true → A → B) × Unit {0}
-no-opening = ((λ e a. absurd (true≢false (sym e))), tt)
+-- windows agree where no opening follows the first: `λ e f. absurd (no-opening e)`. A law for that whole term is slow to unify.
+pub no-opening : false ≡ true → ⊥
+no-opening e = true≢false (sym e)
 
--- byte k of answer i
-abbrev pub answerByte : ℕ → ℕ → List (List ℕ × List ℕ) → ℕ
+-- what a set observes: its frames, each with its answer
+abbrev pub View : Type 0
+View = List (List ℕ × List ℕ)
+
+-- byte k of answer i, and of the last answer
+abbrev pub answerByte : ℕ → ℕ → View → ℕ
 answerByte i k xs = getD (getD xs i ([], []) .1) k 0
+
+abbrev lastAnswerByte : ℕ → View → ℕ
+lastAnswerByte k xs = answerByte (length xs - 1) k xs
 
 -- the first byte of a text
 abbrev textByte : Option (List ℕ) → ℕ
 textByte text = getD (Option·getD text []) 0 0
 
--- ---- a pair that the claim speaks of
+-- the claim is false of a step begun at s if two journals meet the hypotheses for post 50 and are told apart
+module _ {S : Type 0} (accepts : List ℕ → S → Bool) (step : List ℕ → S → Response S) (s : S) (observers : ℕ → Bool) (j₁ j₂ : MarkedJournal) where
+  abbrev pub RunsToldApart : Type 0
+  RunsToldApart =
+      ToldApart observers 50 (marksOf j₁) (marksOf j₂) (runTrace accepts step s (bytesOf j₁)) (runTrace accepts step s (bytesOf j₂))
 
+  pub refuted : RunsToldApart → Confidential accepts step s → ⊥
+  unfolding Confidential Noninterference
+  refuted pair claim = pair .2 (claim observers 50 (bytesOf j₁) (bytesOf j₂) (marksOf j₁) (marksOf j₂) (pair .0) (pair .1))
+
+-- ---- the last texts
+
+-- 65, or 66 and 67, purged before a common 68 and the opening: Openings shows that this pair meets all hypotheses
 abbrev pub opened₁ : MarkedJournal
 opened₁ = map retain created ++ (purge (setText 65) ∷ retain (setText 68) ∷ opening)
 
 abbrev pub opened₂ : MarkedJournal
 opened₂ = map retain created ++ (purge (setText 66) ∷ purge (setText 67) ∷ retain (setText 68) ∷ opening)
-
-pub opened-differ : JournalsDiffer (onlyUser 7) 50 opened₁ opened₂
-unfolding claimDefinitions
-opened-differ = record { purged₁ = refl; purged₂ = refl; same-bytes = refl }
-
-pub opened-windows : (openingsOf (onlyUser 7) 50 opened₁ ≡ true ∷ []) × (openingsOf (onlyUser 7) 50 opened₂ ≡ true ∷ [])
-    × (lastTexts (onlyUser 7) 50 opened₁ ≡ some (68 ∷ []) ∷ []) × (lastTexts (onlyUser 7) 50 opened₂ ≡ some (68 ∷ []) ∷ [])
-unfolding claimDefinitions
-opened-windows = (refl, refl, refl, refl)
-
-pub opened-agree : WindowsAgree (onlyUser 7) 50 opened₁ opened₂
-unfolding claimDefinitions
-opened-agree = ((λ e f. refl), tt)
-
--- the frames of 7 and their answers: the admin starts, registers 9, requests 9 and reads the text
-pub opened-observed : observed (onlyUser 7) (traceOf opened₂ .events) ≡
-    (login 0x0101 7 1, 2 ∷ 0 ∷ 0 ∷ 0 ∷ [])
-    ∷ (registration 7 1 9 3, 2 ∷ 0 ∷ 0 ∷ 0 ∷ [])
-    ∷ (targetString 0x0204 7 1 9 [], 2 ∷ 0 ∷ 0 ∷ 0 ∷ [])
-    ∷ (readText, 5 ∷ 0 ∷ 0 ∷ 0 ∷ 1 ∷ 0 ∷ 68 ∷ []) ∷ []
-unfolding claimDefinitions
-opened-observed = refl
-
--- ---- the last texts
 
 -- 65 or 66, both purged, before the opening
 abbrev pub lastDiffers₁ : MarkedJournal
@@ -200,6 +244,18 @@ last-texts-needed = (
   record { purged₁ = refl; purged₂ = refl; same-bytes = refl },
   (λ agree. told-apart textByte (some (65 ∷ [])) (some (66 ∷ [])) refl (agree .0 refl refl)),
   told-apart (answerByte 3 6) _ _ refl,
+)
+
+-- 65, purged, before the opening, or no update
+abbrev pub noUpdate : MarkedJournal
+noUpdate = map retain created ++ opening
+
+pub both-or-neither-needed : LastTextsFail (onlyUser 7) 50 lastDiffers₁ noUpdate
+unfolding claimDefinitions
+both-or-neither-needed = (
+  record { purged₁ = refl; purged₂ = refl; same-bytes = refl },
+  (λ agree. told-apart textByte (some (65 ∷ [])) none refl (agree .0 refl refl)),
+  told-apart (answerByte 3 0) _ _ refl,
 )
 
 -- 65 purged before a common 68, or behind it
@@ -258,16 +314,21 @@ accepted-updates-needed = (
 
 -- ---- what is purged
 
--- purged while 7 and 9 are friends
-abbrev pub metOpen₁ : MarkedJournal
-metOpen₁ = map retain (created ++ befriend) ++ (purge (setText 65) ∷ retain readText ∷ [])
-
-abbrev pub metOpen₂ : MarkedJournal
-metOpen₂ = map retain (created ++ befriend ++ (readText ∷ []))
-
-pub closed-needed : PurgingFails (onlyUser 7) 50 metOpen₁ metOpen₂ (true, true, false)
+-- 65 purged while 7 and 9 are friends, before 7 reads
+pub friends-needed : PurgingFails (onlyUser 7) 50 (purgedText (created ++ befriend) readText) (noText (created ++ befriend) readText)
+    (true, true, true, false)
 unfolding claimDefinitions purgingTests
-closed-needed = (refl, refl, refl, refl, ((λ e f. refl), tt), told-apart (answerByte 3 0) _ _ refl)
+friends-needed = (refl, refl, refl, refl, ((λ e f. refl), tt), told-apart (answerByte 3 0) _ _ refl)
+
+-- .. while the set is {9}, before 9 reads: 9 sent the purged update, and gets another last answer with it
+pub owner-needed : PurgingFails (onlyUser 9) 50 (purgedText created readBy9) (noText created readBy9) (true, true, true, false)
+unfolding claimDefinitions purgingTests
+owner-needed = (refl, refl, refl, refl, ((λ e f. refl), tt), told-apart (lastAnswerByte 0) _ _ refl)
+
+-- .. while the post is public, before 7 reads, who is no friend of 9
+pub visibility-needed : PurgingFails (onlyUser 7) 50 (purgedText published readText) (noText published readText) (true, true, true, false)
+unfolding claimDefinitions purgingTests
+visibility-needed = (refl, refl, refl, refl, ((λ e f. refl), tt), told-apart (answerByte 2 0) _ _ refl)
 
 -- the text of post 51 of 9, which is public; post 50 is never opened
 abbrev pub publicPost : List (List ℕ)
@@ -279,9 +340,23 @@ otherPost₁ = map retain publicPost ++ (purge (targetString 0x0403 9 3 51 (65 �
 abbrev pub otherPost₂ : MarkedJournal
 otherPost₂ = map retain (publicPost ++ (target 0x0505 7 1 51 ∷ []))
 
-pub number-needed : PurgingFails (onlyUser 7) 50 otherPost₁ otherPost₂ (true, false, true)
+pub number-needed : PurgingFails (onlyUser 7) 50 otherPost₁ otherPost₂ (true, true, false, true)
 unfolding claimDefinitions purgingTests
-number-needed = (refl, refl, refl, refl, no-opening, told-apart (answerByte 2 0) _ _ refl)
+number-needed = (refl, refl, refl, refl, ((λ e f. absurd (no-opening e)), tt), told-apart (answerByte 2 0) _ _ refl)
+
+-- a 0402, which sets the title of post 50, purged before an opening and a 0504 of 7
+abbrev pub readTitle : List (List ℕ)
+readTitle = befriend ++ (target 0x0504 7 1 50 ∷ [])
+
+abbrev pub title₁ : MarkedJournal
+title₁ = map retain created ++ (purge (targetString 0x0402 9 3 50 (65 ∷ [])) ∷ map retain readTitle)
+
+abbrev pub title₂ : MarkedJournal
+title₂ = map retain (created ++ readTitle)
+
+pub kind-needed : PurgingFails (onlyUser 7) 50 title₁ title₂ (true, false, true, true)
+unfolding claimDefinitions purgingTests
+kind-needed = (refl, refl, refl, refl, ((λ e f. refl), tt), told-apart (answerByte 3 0) _ _ refl)
 
 -- a 0403 of 7, who does not own the post
 abbrev pub refused₁ : MarkedJournal
@@ -290,9 +365,9 @@ refused₁ = map retain created ++ (purge (targetString 0x0403 7 1 50 (65 ∷ []
 abbrev pub refused₂ : MarkedJournal
 refused₂ = map retain created
 
-pub accepted-needed : PurgingFails (onlyUser 7) 50 refused₁ refused₂ (false, true, true)
+pub accepted-needed : PurgingFails (onlyUser 7) 50 refused₁ refused₂ (false, true, true, true)
 unfolding claimDefinitions purgingTests
-accepted-needed = (refl, refl, refl, refl, no-opening, told-apart {A = List (List ℕ × List ℕ)} length _ _ refl)
+accepted-needed = (refl, refl, refl, refl, ((λ e f. absurd (no-opening e)), tt), told-apart {A = View} length _ _ refl)
 
 -- ---- the bytes that remain
 
@@ -307,7 +382,7 @@ pub bytes-needed : (mayBePurged (onlyUser 7) 50 further₁ ≡ true) × (mayBePu
     × (remainingBytes further₁ ≡ remainingBytes further₂ → ⊥) × WindowsAgree (onlyUser 7) 50 further₁ further₂
     × (SameObserved (onlyUser 7) 50 further₁ further₂ → ⊥)
 unfolding claimDefinitions
-bytes-needed = (refl, refl, told-apart {A = List ℕ} length _ _ refl, no-opening, told-apart {A = List (List ℕ × List ℕ)} length _ _ refl)
+bytes-needed = (refl, refl, told-apart {A = List ℕ} length _ _ refl, ((λ e f. absurd (no-opening e)), tt), told-apart {A = View} length _ _ refl)
 
 -- ---- the bytes behind the frames
 
@@ -340,10 +415,6 @@ observed-senders = refl
 unfoldable pub historyAfter : List (List ℕ) → History
 historyAfter ms = historyOf (runTrace isAccepted stepState emptyState (flatten ms))
 
--- 7 registers 8 with password 2
-abbrev pub register8 : List (List ℕ)
-register8 = registrationRequest 8 [] ∷ registration 7 1 8 2 ∷ []
-
 -- the owner and friends
 pub closed-by-owner :
     -- a post that is not made is closed, to its later owner too
@@ -355,7 +426,7 @@ pub closed-by-owner :
     × (closedTo (onlyUser 7) 50 (historyAfter (created ++ (targetString 0x0204 7 1 9 [] ∷ []))) ≡ true)
     × (closedTo (onlyUser 7) 50 (historyAfter (created ++ befriend)) ≡ false)
     × (closedTo (onlyUser 8) 50 (historyAfter (created ++ register8 ++ befriend)) ≡ true)
-    × (closedTo (onlyUser 7) 50 (historyAfter (created ++ befriend ++ (target 0x0301 7 1 9 ∷ []))) ≡ true)
+    × (closedTo (onlyUser 7) 50 (historyAfter (created ++ befriend ++ (endFriendship ∷ []))) ≡ true)
     -- .. where the owner requests and the other accepts, or the owner ends it, too
     × (closedTo (onlyUser 7) 50 (historyAfter (created ++ (targetString 0x0204 9 3 7 [] ∷ target 0x0205 7 1 9 ∷ []))) ≡ false)
     × (closedTo (onlyUser 7) 50 (historyAfter (created ++ befriend ++ (target 0x0301 9 3 7 ∷ []))) ≡ true)
@@ -363,9 +434,6 @@ pub closed-by-owner :
     × (closedTo (onlyUser 7) 50 (historyAfter (created ++ register8 ++ (targetString 0x0204 7 1 8 [] ∷ target 0x0205 8 2 7 ∷ []))) ≡ true)
 unfolding claimDefinitions historyAfter historyOf
 closed-by-owner = (refl, refl, refl, refl, refl, refl, refl, refl, refl, refl, refl, refl)
-
-abbrev pub published : List (List ℕ)
-published = created ++ (visibilityUpdate 9 3 50 1 ∷ [])
 
 pub closed-by-visibility :
     -- a public post is open to a set with a registered member, and closed to a set without one
@@ -390,7 +458,7 @@ registration-opens = (refl, refl, refl)
 abbrev pub threeWindows : MarkedJournal
 threeWindows =
     map retain
-    (created ++ (setText 65 ∷ befriend) ++ (setText 66 ∷ target 0x0301 7 1 9 ∷ setText 67 ∷ setText 68 ∷ visibilityUpdate 9 3 50 1
+    (created ++ (setText 65 ∷ befriend) ++ (setText 66 ∷ endFriendship ∷ setText 67 ∷ setText 68 ∷ makePublic
     ∷ visibilityUpdate 9 3 50 0 ∷ []))
 
 pub window-values : (openingsOf (onlyUser 7) 50 threeWindows ≡ true ∷ true ∷ false ∷ [])
@@ -410,41 +478,57 @@ stops-without-room : replayOf starting emptyBoard [] ≡ stopped 2 emptyBoard []
 unfolding replayOf replayIn claimDefinitions
 stops-without-room = rw empty-sound
 
--- the traces t₁ and t₂ meet the hypotheses on what is purged and on openings, nothing purged, and the set {7} tells them apart
-abbrev pub ToldApart : Trace → Trace → Type 0
-ToldApart t₁ t₂ =
-    DifferOnly (closedTo (onlyUser 7) 50) (isTextUpdate 50) t₁ t₂ [] []
-    × AgreeAtOpenings SameLastText
-    (windows (closedTo (onlyUser 7) 50) (isTextUpdate 50) [] [] (mark [] (t₁ .events)))
-    (windows (closedTo (onlyUser 7) 50) (isTextUpdate 50) [] [] (mark [] (t₂ .events)))
-    × (observed (onlyUser 7) (t₁ .events) ≡ observed (onlyUser 7) (t₂ .events) → ⊥)
-
--- the same journal twice, once without room and once with room to the end
+-- the same journal twice, nothing purged, once without room and once with room to the end
 pub room-needed : (o : List ℕ) → (replayOf starting emptyBoard o .stop ≡ 2 → ⊥)
-    → ToldApart (replayTrace starting (replayOf starting emptyBoard [])) (replayTrace starting (replayOf starting emptyBoard o))
-unfolding claimDefinitions replayTrace zipWith answersIn stopped
-room-needed o room =
-    subst (λ (t : Trace). ToldApart t (replayTrace starting (replayOf starting emptyBoard o))) (sym (ap (replayTrace starting) stops-without-room))
-    (subst (ToldApart (replayTrace starting (stopped 2 emptyBoard []))) (sym (replay-trace starting o room))
-    (record { purged₁ = refl; purged₂ = refl; same-bytes = refl }, no-opening, told-apart {A = List (List ℕ × List ℕ)} length _ _ refl))
-
--- the pair that the claim speaks of, replayed in any buffers with room: what the set observes is the same, and holds the text
-pub opened-replayed : (o₁ o₂ : List ℕ) → answerLimit * (1 + length (framesOf (bytesOf opened₁))) ≤ length o₁
-    → answerLimit * (1 + length (framesOf (bytesOf opened₂))) ≤ length o₂
-    → let t₁ : Trace = replayTrace (bytesOf opened₁) (replayOf (bytesOf opened₁) emptyBoard o₁) in
-    let t₂ : Trace = replayTrace (bytesOf opened₂) (replayOf (bytesOf opened₂) emptyBoard o₂) in
-    (observed (onlyUser 7) (t₁ .events) ≡ observed (onlyUser 7) (t₂ .events)) × (answerByte 3 6 (observed (onlyUser 7) (t₁ .events)) ≡ 68)
-opened-replayed o₁ o₂ room₁ room₂ =
-    rw (
-      replay-trace (bytesOf opened₁) o₁ (empty-room (bytesOf opened₁) o₁ room₁),
-      replay-trace (bytesOf opened₂) o₂ (empty-room (bytesOf opened₂) o₂ room₂),
-    )
-    (same, text)
+    → ToldApart (onlyUser 7) 50 [] [] (replayTrace starting (replayOf starting emptyBoard [])) (replayTrace starting (replayOf starting emptyBoard o))
+room-needed o room = rw (stops-without-room, replay-trace starting o room) stopped-told-apart
   where
-    same : observed (onlyUser 7) (traceOf opened₁ .events) ≡ observed (onlyUser 7) (traceOf opened₂ .events)
-    same =
-        unfold Confidential Noninterference in
-        confidential (onlyUser 7) 50 (bytesOf opened₁) (bytesOf opened₂) (marksOf opened₁) (marksOf opened₂) opened-differ opened-agree
+    stopped-told-apart : ToldApart (onlyUser 7) 50 [] [] (replayTrace starting (stopped 2 emptyBoard []))
+        (runTrace isAccepted stepState emptyState starting)
+    stopped-told-apart =
+        unfold claimDefinitions replayTrace zipWith answersIn stopped in
+        (record { purged₁ = refl; purged₂ = refl; same-bytes = refl }, ((λ e f. absurd (no-opening e)), tt), told-apart {A = View} length _ _ refl)
 
-    text : answerByte 3 6 (observed (onlyUser 7) (traceOf opened₁ .events)) ≡ 68
-    text = unfold claimDefinitions in refl
+-- ---- the empty board
+
+-- messages after which post 50 is open to 7, and the state that they lead to
+abbrev pub earlier : List ℕ
+earlier = flatten (created ++ befriend)
+
+abbrev pub openState : State
+openState = lastState emptyState (runOf stepState emptyState earlier)
+
+abbrev pub later₁ : MarkedJournal
+later₁ = purgedText [] readText
+
+abbrev pub later₂ : MarkedJournal
+later₂ = noText [] readText
+
+-- begun there, no message makes the post: it counts as closed where 65 is purged, and 7 reads
+pub open-told-apart : RunsToldApart isAccepted stepState openState (onlyUser 7) later₁ later₂
+unfolding claimDefinitions lastState
+open-told-apart =
+    (record { purged₁ = refl; purged₂ = refl; same-bytes = refl }, ((λ e f. absurd (no-opening e)), tt), told-apart (answerByte 0 0) _ _ refl)
+
+pub empty-board-needed : Confidential isAccepted stepState openState → ⊥
+empty-board-needed = refuted isAccepted stepState openState (onlyUser 7) later₁ later₂ open-told-apart
+
+-- the board that a replay of the earlier messages leaves
+left-board : (o : List ℕ) → (replayOf earlier emptyBoard o .stop ≡ 2 → ⊥) → replayOf earlier emptyBoard o .board ≡ encode openState
+left-board o =
+    subst (λ (b : List ℕ). (replayOf earlier b o .stop ≡ 2 → ⊥) → replayOf earlier b o .board ≡ encode openState) empty-encoded
+    (λ room. ap (λ (r : ReplayResult). r .board) (replay-complete earlier emptyState o empty-valid room))
+
+-- replays on it, in any buffers with room
+pub left-board-told-apart : (o o₁ o₂ : List ℕ) → (replayOf earlier emptyBoard o .stop ≡ 2 → ⊥)
+    → let b : List ℕ = replayOf earlier emptyBoard o .board in
+    (replayOf (bytesOf later₁) b o₁ .stop ≡ 2 → ⊥) → (replayOf (bytesOf later₂) b o₂ .stop ≡ 2 → ⊥)
+    → ToldApart (onlyUser 7) 50 (marksOf later₁) (marksOf later₂)
+    (replayTrace (bytesOf later₁) (replayOf (bytesOf later₁) b o₁)) (replayTrace (bytesOf later₂) (replayOf (bytesOf later₂) b o₂))
+left-board-told-apart o o₁ o₂ room =
+    rw (left-board o room) (λ room₁ room₂.
+    rw (
+      valid-trace (bytesOf later₁) openState o₁ (reached-valid earlier) room₁,
+      valid-trace (bytesOf later₂) openState o₂ (reached-valid earlier) room₂,
+    )
+    open-told-apart)

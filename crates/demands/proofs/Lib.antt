@@ -1,1 +1,2 @@
 pub mod DemandTheorems
+pub mod CallTheorems

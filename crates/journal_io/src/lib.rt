@@ -2,7 +2,7 @@
 ghost use mathlib.Core.Path.{_≡_};
 ghost use Prim.Native.Nat.{_≤_};
 ghost use lib.ListN.{length};
-ghost use Rattle.report.specs.Results.{reportResult};
+ghost use Rattle.report.specs.Results.{writtenSize, reportResult};
 ghost use Rattle.journal_io.specs.Results.{sizeRead, textAfter};
 use libc::STDERR_FILENO;
 use libc::STDOUT_FILENO;
@@ -19,9 +19,17 @@ pub enum Reading {
     Failed,
 }
 
+// Says on standard error that a journal could not be read whole.
+fn failed() -> Reading
+    ensures { λ r. ⌜ sizeRead r ≡ 0 ⌝ }
+{
+    io::write_all(STDERR_FILENO, b"the journal could not be read whole\n");
+    Reading::Failed
+}
+
 // Reads to the end of the input, or until the buffer is full. One that is full and has no more bytes than a journal may have is too short to tell
 // whether the journal is whole.
-fn read_journal(fd: i32, journal: &mut [u8]) -> Reading
+pub fn read_journal(fd: i32, journal: &mut [u8]) -> Reading
     ensures { λ r. ⌜ sizeRead r ≤ length (now (journal .exit)) ⌝ }
 {
     let size = journal.len();
@@ -29,7 +37,7 @@ fn read_journal(fd: i32, journal: &mut [u8]) -> Reading
     while done < size {
         let got = libc::read(fd, &mut journal[done..]);
         if got < 0 {
-            return Reading::Failed;
+            return failed();
         }
         let more = io::count(got, &journal[done..]);
         if more == 0 {
@@ -38,16 +46,15 @@ fn read_journal(fd: i32, journal: &mut [u8]) -> Reading
         done += more;
     }
     if size <= JOURNAL_LIMIT {
-        return Reading::Failed;
+        return failed();
     }
     Reading::Read(size)
 }
 
-// Writes the text for a journal to standard output.
-fn print_lines(journal: &[u8], text: &mut [u8])
-    ensures { λ _. ⌜ now (text .exit) ≡ reportResult (now (journal .entry)) (now (text .entry)) .text ⌝ }
+// Writes a text to standard output; what failed is said on standard error.
+pub fn print_text(report: Report, text: &[u8])
+    requires { ⌜ writtenSize report ≤ length (now text) ⌝ }
 {
-    let report = lines(journal, text);
     match report {
         Report::Written(size) => {
             if !io::write_all(STDOUT_FILENO, &text[..size]) {
@@ -58,6 +65,14 @@ fn print_lines(journal: &[u8], text: &mut [u8])
             io::write_all(STDERR_FILENO, b"the text buffer is too short\n");
         }
     }
+}
+
+// Writes the text for a journal to standard output.
+fn print_lines(journal: &[u8], text: &mut [u8])
+    ensures { λ _. ⌜ now (text .exit) ≡ reportResult (now (journal .entry)) (now (text .entry)) .text ⌝ }
+{
+    let report = lines(journal, text);
+    print_text(report, text);
 }
 
 // Reads a journal and prints its lines, or none where it could not be read whole; what failed is said on standard error.
@@ -71,9 +86,6 @@ pub fn print_journal(fd: i32, journal: &mut [u8], text: &mut [u8]) -> Reading
             print_lines(&journal[..size], text);
             Reading::Read(size)
         }
-        Reading::Failed => {
-            io::write_all(STDERR_FILENO, b"the journal could not be read whole\n");
-            Reading::Failed
-        }
+        Reading::Failed => Reading::Failed,
     }
 }

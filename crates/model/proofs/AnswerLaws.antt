@@ -22,7 +22,7 @@ use Rattle.reader.specs.Frames.{frameBytes}
 use Rattle.reader.proofs.FrameLaws.{length-frame}
 use Rattle.model.specs.State.{User, Post, Pending, State, userLimit, postLimit, pendingLimit, userNumbers, pendingNumbers, userAt, postAt, pendingAt, noteAt}
 use Rattle.model.specs.Board.{userFields, postFields, pendingFields, noteFields}
-use Rattle.model.specs.Lookups.{userSlot, postPlace, pendingPlace, userNumbered, postNumbered, noteOfRequest, ownerOf}
+use Rattle.model.specs.Lookups.{userSlot, postPlace, pendingPlace, userNumbered, postNumbered, noteOfRequest}
 use Rattle.model.specs.Actions.{Cause, malformed}
 use Rattle.model.specs.Actions.{Query, rUser, rNUReq, rAmIAdmin, rTitlePost, rTextPost, rImgPost, rVisPost, rOwnerPost, rFriendReqToMe, rFriendReqFromMe, lPendingUReqs, lAllUsers, lAllPosts, lFriendReqs, lFriends, lFriendsOf}
 use Rattle.model.specs.Actions.{Action, change, query, refused, actionOf}
@@ -66,6 +66,9 @@ posts-answer s = length-counted (postEntry s) 8 (length-post s) (s .posts)
 
 -- ---- the body of each query
 
+number-answer : (width n : ℕ) → width ≤ 514 → length (toLeBytes width n) ≤ 514
+number-answer width n h = omega (arith, length-to width n)
+
 module _ (s : State) (f : FittingState s) where
   note-answer : (i j : ℕ) → length (stringBytes (noteAt s i j)) ≤ 514
   unfolding noteFields
@@ -108,9 +111,9 @@ module _ (s : State) (f : FittingState s) where
       let l = length-stringBytes (a .text) in
       let h = string-short (postFields a) 5 textLimit (a .text) (post-fits s f (postPlace s n)) (lit< tt) refl in
       omega arith
-  body-short (rImgPost u p n) = omega (arith, length-to 4 (postAt s (postPlace s n) .picture))
-  body-short (rVisPost u p n) = omega (arith, length-to 1 (postAt s (postPlace s n) .visibility))
-  body-short (rOwnerPost u p n) = omega (arith, length-to 4 (ownerOf s (postAt s (postPlace s n)) .number))
+  body-short (rImgPost u p n) = number-answer 4 _ (lit≤ tt)
+  body-short (rVisPost u p n) = number-answer 1 _ (lit≤ tt)
+  body-short (rOwnerPost u p n) = number-answer 4 _ (lit≤ tt)
   body-short (rFriendReqToMe u p v) = note-answer (userSlot s u) (userSlot s v)
   body-short (rFriendReqFromMe u p v) = note-answer (userSlot s v) (userSlot s u)
   body-short (lPendingUReqs u p) =
@@ -124,9 +127,9 @@ module _ (s : State) (f : FittingState s) where
       let h = fits-count userCodec userLimit (s .users) (f .users) in
       omega arith
   body-short (lAllPosts u p) = let h = fits-count postCodec postLimit (s .posts) (f .posts) in omega (arith, posts-answer s)
-  body-short (lFriendReqs u p) = users-answer (userAt s (userSlot s u) .requests)
-  body-short (lFriends u p) = users-answer (userAt s (userSlot s u) .friends)
-  body-short (lFriendsOf u p v) = users-answer (userAt s (userSlot s v) .friends)
+  body-short (lFriendReqs u p) = users-answer _
+  body-short (lFriends u p) = users-answer _
+  body-short (lFriendsOf u p v) = users-answer _
 
 -- ---- the answer of a step
 

@@ -1,20 +1,24 @@
 -- The lettered cases and further cases as tables of journals and messages, with the number and the answer that the paper gives them, and the
 -- paper's listing. All are computed on states:
---     lettered-computed, regression-computed, answers-computed   each table as one equation
---     posts-computed                                         64 posts make an answer of 518 bytes
---     listing-lines, listing-cut                             what the listing's messages get, and where it is cut
--- CaseTheorems has the tables on bytes.
+--     lettered-computed, regression-computed   each table as one equation
+--     causes-computed                          which clause refuses a message
+--     posts-computed                           64 posts make an answer of 518 bytes
+--     listing-lines, listing-cut               what the listing's messages get, and where it is cut
+-- AnswerTable has the whole answers of all queries, CaseTheorems the tables on bytes.
 use Prim.Native.Nat.{ℕ, zero, suc, _+_}
 use mathlib.Core.Path.{_≡_, refl}
 use mathlib.Core.List.{List, [], _∷_, _++_, map, flatten}
+use mathlib.Core.Option.{Option, some}
 use lib.ListN.{length, drop, replicate}
 use Rattle.layout.specs.Numbers.{toLeBytes}
 use Rattle.layout.specs.StringFields.{stringBytes}
 use Rattle.reader.specs.Frames.{frameLength, kindOf, bodyOf, frameBytes}
-use Rattle.model.specs.State.{emptyState}
+use Rattle.model.specs.State.{State, emptyState}
+use Rattle.model.specs.Actions.{Cause, malformed, usersPresent, usersAbsent, unknownSender, wrongPassword, notAdmin, userMissing, postMissing, requestMissing, friendshipMissing, pendingMissing, notOwner, notEntitled, alreadyRegistered, alreadyPending, postNumberUsed, requestToSelf, alreadyFriends, alreadyRequested, pendingFull, usersFull, postsFull, Action, change, query, refused, actionOf}
+use Rattle.model.specs.Refusals.{changeRefusals, queryRefusals, firstCause}
 use Rattle.model.specs.Step.{answerLimit, Response, stepState}
 use Rattle.model.specs.Replay.{Exchange, framesOf, runFrames, runOf}
-use Rattle.model.proofs.JournalLaws.{lastState}
+use Rattle.model.proofs.JournalLaws.{exchangeAnswers, lastState}
 use Rattle.model.proofs.StepDefinitions.{stepDefinitions}
 
 -- ---- what a row expects
@@ -25,6 +29,8 @@ pub data Expectation : Type 0 where
   answerIs : (journal : List (List ℕ)) (message : List ℕ) (number : ℕ) (answer : List ℕ) → Expectation
   -- after the journal both messages get the same number and answer
   answersAgree : (journal : List (List ℕ)) (first second : List ℕ) → Expectation
+  -- after the journal the messages, one after the other, get these answers
+  answersAre : (journal : List (List ℕ)) (exchanges : List (List ℕ × List ℕ)) → Expectation
   -- both journals lead to the same board
   boardsAgree : (first second : List (List ℕ)) → Expectation
 
@@ -34,6 +40,7 @@ numberIs journal message n = answerIs journal message n (frameBytes n [])
 
 pub data Outcome (S : Type 0) : Type 0 where
   answerGiven : ℕ → List ℕ → Outcome S
+  answersGiven : List (List ℕ) → Outcome S
   boardLeft : S → Outcome S
 
 -- both sides of a row, for any step
@@ -47,11 +54,14 @@ module _ {S : Type 0} (step : List ℕ → S → Response S) where
   unfoldable pub observed : S → Expectation → Outcome S
   observed s (answerIs journal message n answer) = outcomeOf (stateAfter s journal) message
   observed s (answersAgree journal first second) = outcomeOf (stateAfter s journal) first
+  observed s (answersAre journal exchanges) =
+      answersGiven (exchangeAnswers (runFrames step (stateAfter s journal) (map (λ (x : List ℕ × List ℕ). x .0) exchanges)))
   observed s (boardsAgree first second) = boardLeft (stateAfter s first)
 
   unfoldable pub expected : S → Expectation → Outcome S
   expected s (answerIs journal message n answer) = answerGiven n answer
   expected s (answersAgree journal first second) = outcomeOf (stateAfter s journal) second
+  expected s (answersAre journal exchanges) = answersGiven (map (λ (x : List ℕ × List ℕ). x .1) exchanges)
   expected s (boardsAgree first second) = boardLeft (stateAfter s second)
 
 -- ---- messages
@@ -79,11 +89,11 @@ abbrev pub registration : ℕ → ℕ → ℕ → ℕ → List ℕ
 registration u p v p2 = message 0x0202 (toLeBytes 4 u ∷ toLeBytes 8 p ∷ toLeBytes 4 v ∷ toLeBytes 8 p2 ∷ [])
 
 -- 0401 U P P2 name info
-abbrev userUpdate : ℕ → ℕ → ℕ → List ℕ → List ℕ → List ℕ
+abbrev pub userUpdate : ℕ → ℕ → ℕ → List ℕ → List ℕ → List ℕ
 userUpdate u p p2 name info = message 0x0401 (toLeBytes 4 u ∷ toLeBytes 8 p ∷ toLeBytes 8 p2 ∷ stringBytes name ∷ stringBytes info ∷ [])
 
 -- 0404 U P N picture, 0405 U P N visibility
-abbrev pictureUpdate : ℕ → ℕ → ℕ → ℕ → List ℕ
+abbrev pub pictureUpdate : ℕ → ℕ → ℕ → ℕ → List ℕ
 pictureUpdate u p n picture = message 0x0404 (toLeBytes 4 u ∷ toLeBytes 8 p ∷ toLeBytes 4 n ∷ toLeBytes 4 picture ∷ [])
 
 abbrev pub visibilityUpdate : ℕ → ℕ → ℕ → ℕ → List ℕ
@@ -100,7 +110,7 @@ abbrev pub startJournal : List (List ℕ)
 startJournal = login 0x0101 7 1 ∷ []
 
 -- .. and registers 9 with password 3, then 8 with password 2
-abbrev staff : List (List ℕ)
+abbrev pub staff : List (List ℕ)
 staff = startJournal ++ (registrationRequest 9 [] ∷ registration 7 1 9 3 ∷ registrationRequest 8 [] ∷ registration 7 1 8 2 ∷ [])
 
 -- post 50 "Hi" of 9
@@ -309,78 +319,50 @@ pub regression-computed : map (observed stepState emptyState) regressionCases �
 unfolding regressionCases observed expected outcomeOf lastState numbersFrom stepDefinitions
 regression-computed = refl
 
--- ---- the whole answers of 0501 to 0606, and the rights to posts
+-- ---- causes: which clause of the table refuses a message, also where others have the same number
 
--- pending 21 "x" and 20 "yz"; 9 has password 4 now, name "Bo", info "abc"; posts 50 of 8, 40 of 7, 45 of 9; post 50 has title "Hey", text
--- "abc", picture 1 + 2 * 256 + 3 * 65,536 + 4 * 16,777,216 and is public; 8 requests 7 with the note "a", then 9 does with "bc"
-abbrev exampleJournal : List (List ℕ)
-exampleJournal =
-    staff
-    ++ (registrationRequest 21 (120 ∷ []) ∷ registrationRequest 20 (121 ∷ 122 ∷ []) ∷ userUpdate 9 3 4 (66 ∷ 111 ∷ []) (97 ∷ 98 ∷ 99 ∷ [])
-    ∷ targetString 0x0203 8 2 50 (72 ∷ 105 ∷ []) ∷ targetString 0x0203 7 1 40 [] ∷ targetString 0x0203 9 4 45 []
-    ∷ targetString 0x0402 8 2 50 (72 ∷ 101 ∷ 121 ∷ []) ∷ targetString 0x0403 8 2 50 (97 ∷ 98 ∷ 99 ∷ []) ∷ pictureUpdate 8 2 50 67305985
-    ∷ visibilityUpdate 8 2 50 1 ∷ targetString 0x0204 8 2 7 (97 ∷ []) ∷ targetString 0x0204 9 4 7 (98 ∷ 99 ∷ []) ∷ [])
+abbrev causeOf : Action → State → Option Cause
+causeOf (change c) s = firstCause (changeRefusals s c)
+causeOf (query q) s = firstCause (queryRefusals s q)
+causeOf (refused refusal) s = some (malformed refusal)
 
--- 7 accepts 8, then 9
-abbrev requestsAccepted : List (List ℕ)
-requestsAccepted = exampleJournal ++ (target 0x0205 7 1 8 ∷ target 0x0205 7 1 9 ∷ [])
+-- after 101 has asked
+abbrev asked : List (List ℕ)
+asked = posted ++ (registrationRequest 101 [] ∷ [])
 
-pub answerCases : List Expectation
-answerCases =
-    -- 0501: name and info, and of a user without
-    answerIs exampleJournal (target 0x0501 8 2 9) 0 (11 ∷ 0 ∷ 0 ∷ 0 ∷ 2 ∷ 0 ∷ 66 ∷ 111 ∷ 3 ∷ 0 ∷ 97 ∷ 98 ∷ 99 ∷ [])
-    ∷ answerIs exampleJournal (target 0x0501 9 4 8) 0 (6 ∷ 0 ∷ 0 ∷ 0 ∷ 0 ∷ 0 ∷ 0 ∷ 0 ∷ [])
-    -- 0502: note of a pending registration
-    ∷ answerIs exampleJournal (target 0x0502 7 1 20) 0 (6 ∷ 0 ∷ 0 ∷ 0 ∷ 2 ∷ 0 ∷ 121 ∷ 122 ∷ [])
-    -- 0503: the admin, another, and 9 with the password before 0401
-    ∷ answerIs exampleJournal (login 0x0503 7 1) 0 (3 ∷ 0 ∷ 0 ∷ 0 ∷ 1 ∷ [])
-    ∷ answerIs exampleJournal (login 0x0503 9 4) 0 (3 ∷ 0 ∷ 0 ∷ 0 ∷ 0 ∷ [])
-    ∷ numberIs exampleJournal (login 0x0503 9 3) 7
-    -- 0504 title, 0505 text, 0506 picture, 0507 visibility of a public post
-    ∷ answerIs exampleJournal (target 0x0504 9 4 50) 0 (7 ∷ 0 ∷ 0 ∷ 0 ∷ 3 ∷ 0 ∷ 72 ∷ 101 ∷ 121 ∷ [])
-    ∷ answerIs exampleJournal (target 0x0505 9 4 50) 0 (7 ∷ 0 ∷ 0 ∷ 0 ∷ 3 ∷ 0 ∷ 97 ∷ 98 ∷ 99 ∷ [])
-    ∷ answerIs exampleJournal (target 0x0506 9 4 50) 0 (6 ∷ 0 ∷ 0 ∷ 0 ∷ 1 ∷ 2 ∷ 3 ∷ 4 ∷ [])
-    ∷ answerIs exampleJournal (target 0x0507 9 4 50) 0 (3 ∷ 0 ∷ 0 ∷ 0 ∷ 1 ∷ [])
-    -- .. and no longer public
-    ∷ numberIs (exampleJournal ++ (visibilityUpdate 8 2 50 0 ∷ [])) (target 0x0505 9 4 50) 10
-    -- .. of a new post, for its owner
-    ∷ answerIs exampleJournal (target 0x0504 9 4 45) 0 (4 ∷ 0 ∷ 0 ∷ 0 ∷ 0 ∷ 0 ∷ [])
-    ∷ answerIs exampleJournal (target 0x0505 9 4 45) 0 (4 ∷ 0 ∷ 0 ∷ 0 ∷ 0 ∷ 0 ∷ [])
-    ∷ answerIs exampleJournal (target 0x0506 9 4 45) 0 (6 ∷ 0 ∷ 0 ∷ 0 ∷ 0 ∷ 0 ∷ 0 ∷ 0 ∷ [])
-    ∷ answerIs exampleJournal (target 0x0507 9 4 45) 0 (3 ∷ 0 ∷ 0 ∷ 0 ∷ 0 ∷ [])
-    -- .. for the admin, before and after becoming a friend of the owner
-    ∷ numberIs exampleJournal (target 0x0504 7 1 45) 10
-    ∷ numberIs exampleJournal (target 0x0505 7 1 45) 10
-    ∷ numberIs exampleJournal (target 0x0506 7 1 45) 10
-    ∷ numberIs exampleJournal (target 0x0507 7 1 45) 10
-    ∷ answerIs requestsAccepted (target 0x0505 7 1 45) 0 (4 ∷ 0 ∷ 0 ∷ 0 ∷ 0 ∷ 0 ∷ [])
-    -- 0508: owner's number, to any registered user
-    ∷ answerIs exampleJournal (target 0x0508 9 4 40) 0 (6 ∷ 0 ∷ 0 ∷ 0 ∷ 7 ∷ 0 ∷ 0 ∷ 0 ∷ [])
-    -- 0402 to 0405 are the owner's, of a public post and of a friend's
-    ∷ numberIs exampleJournal (targetString 0x0402 9 4 50 []) 10
-    ∷ numberIs exampleJournal (targetString 0x0403 9 4 50 []) 10
-    ∷ numberIs exampleJournal (pictureUpdate 9 4 50 0) 10
-    ∷ numberIs exampleJournal (visibilityUpdate 9 4 50 0) 10
-    ∷ numberIs requestsAccepted (targetString 0x0403 7 1 45 []) 10
-    -- 0509, 050a: note of a request to, and from, the sender
-    ∷ answerIs exampleJournal (target 0x0509 7 1 8) 0 (5 ∷ 0 ∷ 0 ∷ 0 ∷ 1 ∷ 0 ∷ 97 ∷ [])
-    ∷ answerIs exampleJournal (target 0x050a 9 4 7) 0 (6 ∷ 0 ∷ 0 ∷ 0 ∷ 2 ∷ 0 ∷ 98 ∷ 99 ∷ [])
-    -- 0601: pending ones in order of asking
-    ∷ answerIs exampleJournal (login 0x0601 7 1) 0 (12 ∷ 0 ∷ 0 ∷ 0 ∷ 2 ∷ 0 ∷ 21 ∷ 0 ∷ 0 ∷ 0 ∷ 20 ∷ 0 ∷ 0 ∷ 0 ∷ [])
-    -- 0602: users in order of registration
-    ∷ answerIs exampleJournal (login 0x0602 8 2) 0 (16 ∷ 0 ∷ 0 ∷ 0 ∷ 3 ∷ 0 ∷ 7 ∷ 0 ∷ 0 ∷ 0 ∷ 9 ∷ 0 ∷ 0 ∷ 0 ∷ 8 ∷ 0 ∷ 0 ∷ 0 ∷ [])
-    -- 0603: posts in order of creation, each number followed by its owner's
-    ∷ answerIs exampleJournal (login 0x0603 9 4) 0
-    (28 ∷ 0 ∷ 0 ∷ 0 ∷ 3 ∷ 0 ∷ 50 ∷ 0 ∷ 0 ∷ 0 ∷ 8 ∷ 0 ∷ 0 ∷ 0 ∷ 40 ∷ 0 ∷ 0 ∷ 0 ∷ 7 ∷ 0 ∷ 0 ∷ 0 ∷ 45 ∷ 0 ∷ 0 ∷ 0 ∷ 9 ∷ 0 ∷ 0 ∷ 0 ∷ [])
-    -- 0604, 0605, 0606 in order of registration: 9 before 8, who requested first and was accepted first
-    ∷ answerIs exampleJournal (login 0x0604 7 1) 0 (12 ∷ 0 ∷ 0 ∷ 0 ∷ 2 ∷ 0 ∷ 9 ∷ 0 ∷ 0 ∷ 0 ∷ 8 ∷ 0 ∷ 0 ∷ 0 ∷ [])
-    ∷ answerIs requestsAccepted (login 0x0605 7 1) 0 (12 ∷ 0 ∷ 0 ∷ 0 ∷ 2 ∷ 0 ∷ 9 ∷ 0 ∷ 0 ∷ 0 ∷ 8 ∷ 0 ∷ 0 ∷ 0 ∷ [])
-    ∷ answerIs requestsAccepted (target 0x0606 8 2 7) 0 (12 ∷ 0 ∷ 0 ∷ 0 ∷ 2 ∷ 0 ∷ 9 ∷ 0 ∷ 0 ∷ 0 ∷ 8 ∷ 0 ∷ 0 ∷ 0 ∷ [])
-    ∷ []
+-- a journal, the message after it, and the cause of its refusal
+pub causeCases : List (List (List ℕ) × List ℕ × Cause)
+causeCases =
+    -- 6 and 7
+    (posted, login 0x0101 99 5, usersPresent) ∷ ([], registrationRequest 7 [], usersAbsent)
+    ∷ (posted, login 0x0503 99 0, unknownSender) ∷ (posted, login 0x0503 8 5, wrongPassword)
+    -- 8
+    ∷ (posted, login 0x0601 8 2, notAdmin) ∷ (posted, target 0x0502 8 2 99, notAdmin) ∷ (posted, registration 8 2 99 5, notAdmin)
+    -- 9: no such user, before no request and no friendship
+    ∷ (posted, targetString 0x0204 8 2 99 [], userMissing) ∷ (posted, target 0x0205 8 2 99, userMissing) ∷ (posted, target 0x0301 8 2 99, userMissing)
+    ∷ (posted, target 0x0501 8 2 99, userMissing) ∷ (posted, target 0x0509 8 2 99, userMissing) ∷ (posted, target 0x050a 8 2 99, userMissing)
+    ∷ (posted, target 0x0606 8 2 99, userMissing)
+    -- .. with another user, and with oneself
+    ∷ (posted, target 0x0205 8 2 9, requestMissing) ∷ (posted, target 0x0509 8 2 9, requestMissing) ∷ (posted, target 0x050a 8 2 9, requestMissing)
+    ∷ (posted, target 0x0205 8 2 8, requestMissing) ∷ (posted, target 0x0509 8 2 8, requestMissing) ∷ (posted, target 0x050a 8 2 8, requestMissing)
+    ∷ (posted, target 0x0301 8 2 9, friendshipMissing) ∷ (posted, target 0x0301 8 2 8, friendshipMissing)
+    -- .. no such post, no such pending registration
+    ∷ (posted, targetString 0x0402 8 2 51 [], postMissing) ∷ (posted, target 0x0508 8 2 51, postMissing)
+    ∷ (posted, registration 7 1 99 5, pendingMissing) ∷ (posted, target 0x0502 7 1 99, pendingMissing)
+    -- 10
+    ∷ (posted, targetString 0x0402 8 2 50 [], notOwner) ∷ (posted, target 0x0505 8 2 50, notEntitled) ∷ (posted, target 0x0606 8 2 9, notEntitled)
+    -- 11
+    ∷ (asked, registrationRequest 8 [], alreadyRegistered) ∷ (asked, registrationRequest 101 [], alreadyPending)
+    ∷ (posted, targetString 0x0203 8 2 50 [], postNumberUsed) ∷ (posted, targetString 0x0204 8 2 8 [], requestToSelf)
+    ∷ (befriended, targetString 0x0204 9 3 8 [], alreadyFriends) ∷ (requestedAgain, targetString 0x0204 8 2 9 [], alreadyRequested)
+    -- 12
+    ∷ (fullPending, registrationRequest 117 [], pendingFull) ∷ (fullUsersAsked, registration 7 1 101 5, usersFull)
+    ∷ (fullPosts, targetString 0x0203 7 1 65 [], postsFull) ∷ []
 
-pub answers-computed : map (observed stepState emptyState) answerCases ≡ map (expected stepState emptyState) answerCases
-unfolding answerCases observed expected outcomeOf lastState numbersFrom stepDefinitions
-answers-computed = refl
+pub causes-computed : map (λ (x : List (List ℕ) × List ℕ × Cause). causeOf (actionOf (x .1)) (stateAfter stepState emptyState (x .0))) causeCases
+    ≡ map (λ (x : List (List ℕ) × List ℕ × Cause). some (x .2)) causeCases
+unfolding causeCases lastState numbersFrom stepDefinitions
+causes-computed = refl
 
 -- ---- the longest answer
 

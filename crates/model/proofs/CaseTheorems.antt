@@ -1,4 +1,4 @@
--- The tables of CaseTable about bytes: what `stepOf` gives after journals from the empty board.
+-- The tables of CaseTable and AnswerTable about bytes: what `stepOf` gives after journals from the empty board.
 --     lettered-cases, regression-cases, answer-cases   the rows of each table
 --     posts-written                                64 posts make an answer of 518 bytes
 --     own-friends                                  (i) on every state
@@ -13,6 +13,7 @@ use lib.Dec.{eqb}
 use borrow.Author.Tests.{eq-eqb}
 use Rattle.bytes.specs.Bytes.{indexOf}
 use lib.ListN.{length, take, replicate, length-replicate}
+use Rattle.reader.specs.Frames.{kindOf, bodyOf}
 use Rattle.model.specs.State.{State, emptyState}
 use Rattle.model.specs.Board.{encode, emptyBoard}
 use Rattle.model.specs.Lists.{contains}
@@ -21,14 +22,15 @@ use Rattle.model.specs.Actions.{Cause, unknownSender, wrongPassword, use
 use Rattle.model.specs.Refusals.{rightOf, lacksRight, afterLogin, userRows, queryRefusals, firstCause}
 use Rattle.model.specs.Answers.{staffList, usersIn, answerBody}
 use Rattle.model.specs.Step.{answerLimit, Response, respond, StepResult, stepAction, stepState, stepOf}
-use Rattle.model.specs.Replay.{framesOf, runFrames, runOf}
+use Rattle.model.specs.Replay.{Exchange, framesOf, runFrames, runOf}
 use Rattle.model.proofs.EmptyBoard.{empty-encoded}
 use Rattle.model.proofs.RuleLaws.{ValidState}
 use Rattle.model.proofs.Invariant.{empty-valid, step-valid}
 use Rattle.model.proofs.StepTheorems.{step-valid-board}
 use Rattle.model.proofs.BufferLaws.{take-start}
-use Rattle.model.proofs.JournalLaws.{lastState, run-keeps}
-use Rattle.model.proofs.CaseTable.{Expectation, answerIs, answersAgree, boardsAgree, Outcome, answerGiven, boardLeft, stateAfter, outcomeOf, observed, expected, letteredCases, lettered-computed, regressionCases, regression-computed, answerCases, answers-computed, login, fullPosts, posts-computed, listing, lineOf, listingLines, listing-lines}
+use Rattle.model.proofs.JournalLaws.{exchangeAnswers, lastState, run-keeps}
+use Rattle.model.proofs.AnswerTable.{answerCases, answers-computed}
+use Rattle.model.proofs.CaseTable.{Expectation, answerIs, answersAgree, answersAre, boardsAgree, Outcome, answerGiven, answersGiven, boardLeft, stateAfter, outcomeOf, observed, expected, letteredCases, lettered-computed, regressionCases, regression-computed, login, fullPosts, posts-computed, listing, lineOf, listingLines, listing-lines}
 
 -- ---- the step on boards alone
 
@@ -60,6 +62,7 @@ board-step msg s valid =
 
 encodeOutcome : Outcome State → Outcome (List ℕ)
 encodeOutcome (answerGiven n a) = answerGiven n a
+encodeOutcome (answersGiven answers) = answersGiven answers
 encodeOutcome (boardLeft s) = boardLeft (encode s)
 
 after-valid : (ms : List (List ℕ)) → ValidState (stateAfter stepState emptyState ms)
@@ -72,6 +75,19 @@ after-encode s valid (m ∷ ms) =
     ap (λ (r : Response (List ℕ)). stateAfter boardStep (r .state) ms) (board-step m s valid)
     ∙ after-encode (stepState m s .state) (step-valid m s valid) ms
 
+-- what `seen` makes of the frame, the number and the answer of an exchange
+abbrev seenIn : {S A : Type 0} → (List ℕ → ℕ → List ℕ → A) → Exchange S → A
+seenIn seen x = seen (x .frame) (x .response .number) (x .response .answer)
+
+run-encode : {A : Type 0} (seen : List ℕ → ℕ → List ℕ → A) (s : State) → ValidState s → (ms : List (List ℕ))
+    → map (seenIn seen) (runFrames boardStep (encode s) ms) ≡ map (seenIn seen) (runFrames stepState s ms)
+unfolding runFrames
+run-encode seen s valid [] = refl
+run-encode {A} seen s valid (m ∷ ms) =
+    let r : Response State = stepState m s in
+    ap (λ (x : Response (List ℕ)). seen m (x .number) (x .answer) ∷ map (seenIn seen) (runFrames boardStep (x .state) ms)) (board-step m s valid)
+    ∙ ap (λ (later : List A). seen m (r .number) (r .answer) ∷ later) (run-encode seen (r .state) (step-valid m s valid) ms)
+
 -- a message after a journal
 outcome-encode : (ms : List (List ℕ)) (m : List ℕ)
     → outcomeOf boardStep (stateAfter boardStep (encode emptyState) ms) m
@@ -83,15 +99,20 @@ outcome-encode ms m =
     (board-step m (stateAfter stepState emptyState ms) (after-valid ms))
 
 observed-encode : (e : Expectation) → observed boardStep (encode emptyState) e ≡ encodeOutcome (observed stepState emptyState e)
-unfolding observed encodeOutcome
+unfolding observed encodeOutcome exchangeAnswers
 observed-encode (answerIs journal message n answer) = outcome-encode journal message
 observed-encode (answersAgree journal first second) = outcome-encode journal first
+observed-encode (answersAre journal exchanges) =
+    let ms : List (List ℕ) = map (λ (x : List ℕ × List ℕ). x .0) exchanges in
+    ap (λ (b : List ℕ). answersGiven (exchangeAnswers (runFrames boardStep b ms))) (after-encode emptyState empty-valid journal)
+    ∙ ap answersGiven (run-encode (λ m n a. a) (stateAfter stepState emptyState journal) (after-valid journal) ms)
 observed-encode (boardsAgree first second) = ap boardLeft (after-encode emptyState empty-valid first)
 
 expected-encode : (e : Expectation) → expected boardStep (encode emptyState) e ≡ encodeOutcome (expected stepState emptyState e)
 unfolding expected encodeOutcome
 expected-encode (answerIs journal message n answer) = refl
 expected-encode (answersAgree journal first second) = outcome-encode journal second
+expected-encode (answersAre journal exchanges) = refl
 expected-encode (boardsAgree first second) = ap boardLeft (after-encode emptyState empty-valid second)
 
 -- a table that holds on states holds on bytes
@@ -146,20 +167,11 @@ own-friends s u p =
 
 -- ---- the listing
 
-lines-encode : (s : State) → ValidState s → (ms : List (List ℕ))
-    → map lineOf (runFrames boardStep (encode s) ms) ≡ map lineOf (runFrames stepState s ms)
-unfolding runFrames
-lines-encode s valid [] = refl
-lines-encode s valid (m ∷ ms) =
-    let line : Response State → ℕ × ℕ × ℕ = λ r. lineOf (record { frame = m; before = s; response = r }) in
-    let boardLine : Response (List ℕ) → ℕ × ℕ × ℕ = λ r. lineOf (record { frame = m; before = encode s; response = r }) in
-    ap (λ (r : Response (List ℕ)). boardLine r ∷ map lineOf (runFrames boardStep (r .state) ms)) (board-step m s valid)
-    ∙ ap (λ (lines : List (ℕ × ℕ × ℕ)). line (stepState m s) ∷ lines) (lines-encode (stepState m s .state) (step-valid m s valid) ms)
-
 pub run-lines : (j : List ℕ) → map lineOf (runOf boardStep emptyBoard j) ≡ map lineOf (runOf stepState emptyState j)
 unfolding runOf
 run-lines j =
-    ap (λ (b : List ℕ). map lineOf (runFrames boardStep b (framesOf j))) (sym empty-encoded) ∙ lines-encode emptyState empty-valid (framesOf j)
+    ap (λ (b : List ℕ). map lineOf (runFrames boardStep b (framesOf j))) (sym empty-encoded)
+    ∙ run-encode (λ m n a. (kindOf m, n, length (bodyOf a))) emptyState empty-valid (framesOf j)
 
 pub listing-board : map lineOf (runOf boardStep emptyBoard listing) ≡ listingLines
 listing-board = run-lines listing ∙ listing-lines

@@ -4,7 +4,7 @@
 --     frames-unread, unread-no-frame   the frames and the rest behind them are the journal, and no frame begins that rest
 --     all-frames                each of the frames is one whole frame
 --     frames-size               frames have four bytes each at least
---     frames-before             the bytes of the first k frames have just these frames
+--     frames-first, frames-before      the first k frames stand first in a journal, and their bytes have just these frames
 --     frames-behind, unread-behind     from behind its first k frames on, a journal has the remaining frames and the same unread rest
 --     frames-in-front, frames-flatten  frames one behind the other, with bytes behind them that begin none or without, are the frames found
 --     run-take, run-drop        the run of a list of frames, cut in two
@@ -206,16 +206,19 @@ unread-behind (suc k) j =
     let n = eqb-false (frameLength j) 0 e in
     ap unread (behind-more k j n) ∙ unread-behind k (afterFirst j) ∙ sym (unread-more j n))
 
--- the first k frames stand first in the journal, and are its frames up to there
+-- the first k frames stand first in the journal, then the other frames and the rest
+pub frames-first : (k : ℕ) (j : List ℕ) → j ≡ flatten (take k (framesOf j)) ++ (flatten (drop k (framesOf j)) ++ unread j)
+frames-first k j =
+    let fs : List (List ℕ) = framesOf j in
+    sym (frames-unread j) ∙ ap (λ (x : List ℕ). x ++ unread j) (ap flatten (sym (take-append-drop k fs)) ∙ flatten-append (take k fs) (drop k fs))
+    ∙ append-assoc (flatten (take k fs)) (flatten (drop k fs)) (unread j)
+
+-- and they are its frames up to there
 pub frames-before : (k : ℕ) (j : List ℕ) → framesOf (take (length (flatten (take k (framesOf j)))) j) ≡ take k (framesOf j)
 frames-before k j =
     let fs : List (List ℕ) = framesOf j in
     let first : List ℕ = flatten (take k fs) in
-    let split : j ≡ first ++ (flatten (drop k fs) ++ unread j) =
-    sym (frames-unread j) ∙ ap (λ (x : List ℕ). x ++ unread j) (ap flatten (sym (take-append-drop k fs)) ∙ flatten-append (take k fs) (drop k fs))
-    ∙ append-assoc first (flatten (drop k fs)) (unread j)
-    in
-    ap framesOf (ap (take (length first)) split ∙ take-at first (flatten (drop k fs) ++ unread j) (length first) refl)
+    ap framesOf (ap (take (length first)) (frames-first k j) ∙ take-at first (flatten (drop k fs) ++ unread j) (length first) refl)
     ∙ frames-flatten (take k fs) (all-take isFrame k fs (all-frames j))
 
 -- ---- exchanges

@@ -24,6 +24,7 @@ pub mod StepDefinitions
 pub mod BufferLaws
 pub mod JournalLaws
 pub mod CaseTable
+pub mod AnswerTable
 pub mod ActionLaws
 pub mod AcceptedLaws
 pub mod RowInvariant

@@ -1,6 +1,7 @@
 -- The rows of the table of "The answer", 1 to 12:
 --     step-number, lowest-number, number-applies   the step returns the lowest number that applies, and none otherwise
 --     table-rising    the rows follow the order of the numbers
+--     rights-at-ends  which right the kinds at the ends of each range ask for
 --     paper-table     for each number from 6 to 12 the kinds whose rows hold it are those of the paper's table
 --     frame-number    a frame is never refused with 1, 2 or 3 on a state
 use Prim.Native.Nat.{ℕ, zero, suc, _≤_, _<_, suc-le-suc}
@@ -30,7 +31,7 @@ use Rattle.model.specs.Actions.{Cause, malformed, unsoundBoard, shortBuf
 use Rattle.model.specs.Actions.{Change, startSys, cNUReq, cUser, cPost, cFriendReq, cFriend, dFriend, uUser, uTitlePost, uTextPost, uImgPost, uVisPost}
 use Rattle.model.specs.Actions.{Query, rUser, rNUReq, rAmIAdmin, rTitlePost, rTextPost, rImgPost, rVisPost, rOwnerPost, rFriendReqToMe, rFriendReqFromMe, lPendingUReqs, lAllUsers, lAllPosts, lFriendReqs, lFriends, lFriendsOf}
 use Rattle.model.specs.Actions.{Action, change, query, refused, actionNamed, actionFrom, actionOf}
-use Rattle.model.specs.Refusals.{causeNumber, refusalOrder, RefusalRow, rightOf, lacksRight, afterLogin, postRows, userRows, pendingRows, changeRefusals, queryRefusals, firstCause, numberReturned, firstNumber}
+use Rattle.model.specs.Refusals.{causeNumber, refusalOrder, RefusalRow, adminRight, ownerRight, readerRight, friendRight, noRight, rightOf, lacksRight, afterLogin, postRows, userRows, pendingRows, changeRefusals, queryRefusals, firstCause, numberReturned, firstNumber}
 use Rattle.model.specs.Changes.{applyChange}
 use Rattle.model.specs.Answers.{answerBody}
 use Rattle.model.specs.Step.{answerLimit, respond, stepAction, stepState, argumentRefusals, writeAnswer, stepWith, stepOf}
@@ -458,3 +459,10 @@ pub paper-table : (s : State) (vs : List FieldValue)
     → map (λ (row : ℕ × List ℕ). kindsRefused s vs (row .0) kinds) refusalTable ≡ map (λ (row : ℕ × List ℕ). row .1) refusalTable
 unfolding kindsRefused kinds actionNamed actionRows indexOf contains causeNumber rightOf lacksRight afterLogin postRows userRows pendingRows changeRefusals queryRefusals
 paper-table s vs = refl
+
+-- the rights at both ends of each range of kinds, and next to them
+pub rights-at-ends : map rightOf (0 ∷ 0x0202 ∷ 0x0401 ∷ 0x0402 ∷ 0x0405 ∷ 0x0406 ∷ 0x0502 ∷ 0x0503 ∷ 0x0504 ∷ 0x0507 ∷ 0x0508 ∷ 0x0601 ∷ 0x0605 ∷ 0x0606 ∷ 0x0607 ∷ [])
+    ≡ noRight ∷ adminRight ∷ noRight ∷ ownerRight ∷ ownerRight ∷ noRight ∷ adminRight ∷ noRight ∷ readerRight ∷ readerRight ∷ noRight ∷ adminRight
+    ∷ noRight ∷ friendRight ∷ noRight ∷ []
+unfolding rightOf contains indexOf
+rights-at-ends = refl

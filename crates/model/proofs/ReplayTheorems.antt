@@ -11,6 +11,7 @@
 --     messages-counted   the message count is the number of frames passed
 -- On any board, sound or not:
 --     unsound-replay     a board that is not sound: 1, and nothing is changed
+--     counts-within      the counts are at most the lengths of the journal and of the buffer
 --     replay-repeatable, more-room       what can be observed of it does not depend on the bytes in the buffer, nor on room beyond what it needs
 use Prim.Native.Nat.{ℕ, zero, suc, _+_, _*_, _-_, _≤_, _<_}
 use native.Mathlib.Omega.{arith}
@@ -43,7 +44,7 @@ use Rattle.model.proofs.Invariant.{step-valid}
 use Rattle.model.proofs.AnswerLaws.{answer-short}
 use Rattle.model.proofs.StepTheorems.{unsound-refused, arguments-accepted, step-valid-board, sound-valid, valid-board}
 use Rattle.model.proofs.BufferLaws.{take-start, drop-start, patch-behind}
-use Rattle.model.proofs.JournalLaws.{afterFirst, frames-none, frames-before, shorter-rest, unread-none, unread-more, behindFrames, frames-behind, unread-behind, all-frames, exchangeFrames, exchangeAnswers, lastState, last-append, length-run, frames-run, frames-met, run-take, run-drop, run-keeps, answers-within, run-none, run-more}
+use Rattle.model.proofs.JournalLaws.{afterFirst, frames-none, frames-size, frames-first, frames-before, length-frames, shorter-rest, unread-none, unread-more, behindFrames, frames-behind, unread-behind, all-frames, exchangeFrames, exchangeAnswers, lastState, last-append, length-run, frames-run, frames-met, run-take, run-drop, run-keeps, answers-within, run-none, run-more}
 
 -- ---- one place of a replay
 
@@ -328,6 +329,16 @@ pub record ReplayPrefix (j : List ℕ) (s : State) (o : List ℕ) (r : ReplayRes
   pub room : (k : ℕ) → k < r .messages → length (flatten (exchangeAnswers (take k (runOf stepState s j)))) + answerLimit ≤ length o
   pub reason : StopReason j o (runOf stepState s j) r
 
+-- the bytes passed are those of the messages done
+prefix-passed : {j : List ℕ} {s : State} {r : ReplayResult} {o : List ℕ} → ReplayPrefix j s o r
+    → r .passed ≡ length (flatten (take (r .messages) (framesOf j)))
+unfolding runOf
+prefix-passed {j} {s} {r} p =
+    let k : ℕ = r .messages in
+    ap (λ (x : ReplayResult). x .passed) (p .equal)
+    ∙ ap (λ (ms : List (List ℕ)). length (flatten ms))
+    (ap exchangeFrames (run-take stepState k s (framesOf j)) ∙ frames-run stepState s (take k (framesOf j)))
+
 -- a replay that stops at once
 prefix-none : (why : ℕ) (j : List ℕ) (s : State) (o : List ℕ) → StopReason j o (runOf stepState s j) (stopped why (encode s) o)
     → ReplayPrefix j s o (stopped why (encode s) o)
@@ -584,11 +595,8 @@ module _ (j : List ℕ) (s : State) (o : List ℕ) (valid : ValidState s) where
       by-reason (atEnd m q) = by-end (eqb (length (unread j)) 0) q
 
   rest-behind : drop (result .passed) j ≡ behindFrames (result .messages) j
-  unfolding behindFrames runOf
-  rest-behind =
-      ap (λ (r : ReplayResult). drop (r .passed) j) (replay-prefix .equal)
-      ∙ ap (λ (ms : List (List ℕ)). drop (length (flatten ms)) j)
-      (ap exchangeFrames (run-take stepState (result .messages) s (framesOf j)) ∙ frames-run stepState s (take (result .messages) (framesOf j)))
+  unfolding behindFrames
+  rest-behind = ap (λ (n : ℕ). drop n j) (prefix-passed replay-prefix)
 
   -- from where it stopped on, the journal has the remaining messages, which meet the state that it left, and the same unread rest
   pub replay-resumed : let r : ReplayResult = replayOf j (encode s) o in
@@ -695,14 +703,36 @@ messages-counted j b o y =
   where
     by-prefix : (r : ReplayResult) → ReplayPrefix j (decode b) o r → r .messages ≡ length (framesOf (take (r .passed) j))
     by-prefix r p =
-        let k : ℕ = r .messages in
-        let fs : List (List ℕ) = framesOf j in
-        let count : length (runOf stepState (decode b) j) ≡ length fs = length-run stepState (decode b) fs in
-        let met : exchangeFrames (take k (runOf stepState (decode b) j)) ≡ take k fs =
-        ap exchangeFrames (run-take stepState k (decode b) fs) ∙ frames-run stepState (decode b) (take k fs)
-        in
-        let passed : r .passed ≡ length (flatten (take k fs)) =
-        ap (λ (x : ReplayResult). x .passed) (p .equal) ∙ ap (λ (ms : List (List ℕ)). length (flatten ms)) met
-        in
-        sym (ap (λ (n : ℕ). length (framesOf (take n j))) passed ∙ ap length (frames-before k j)
-        ∙ length-take-le k fs (omega (arith, p .not-more, count)))
+        let count : length (runOf stepState (decode b) j) ≡ length (framesOf j) = length-run stepState (decode b) (framesOf j) in
+        sym (ap (λ (n : ℕ). length (framesOf (take n j))) (prefix-passed p) ∙ ap length (frames-before (r .messages) j)
+        ∙ length-take-le (r .messages) (framesOf j) (omega (arith, p .not-more, count)))
+
+-- the counts are at most the lengths of what was lent
+pub record CountsWithin (j o : List ℕ) (r : ReplayResult) : Type 0 where
+  pub messages : r .messages ≤ length j
+  pub passed : r .passed ≤ length j
+  pub written : r .written ≤ length o
+
+-- on any board: the messages done stand first in the journal, and each has four bytes at least
+pub counts-within : (j b o : List ℕ) → areBytes b ≡ true → CountsWithin j o (replayOf j b o)
+unfolding stopped
+counts-within j b o y =
+    cases (isSound b) (λ e. by-prefix (sound-prefix j b o y e))
+    (λ e. subst (CountsWithin j o) (sym (unsound-replay j b o e)) (record { messages = omega arith; passed = omega arith; written = omega arith }))
+  where
+    r : ReplayResult
+    r = replayOf j b o
+
+    by-prefix : ReplayPrefix j (decode b) o r → CountsWithin j o r
+    by-prefix p =
+        let ms : List (List ℕ) = take (r .messages) (framesOf j) in
+        let rest : List ℕ = flatten (drop (r .messages) (framesOf j)) ++ unread j in
+        let split : length j ≡ length (flatten ms) + length rest = ap length (frames-first (r .messages) j) ∙ length-append (flatten ms) rest in
+        let passed : r .passed ≤ length j = omega (arith, prefix-passed p, split) in
+        let front : List ℕ = take (r .passed) j in
+        let size = frames-size (framesOf front) (all-frames front) in
+        record {
+          messages = omega (arith, messages-counted j b o y, size, length-frames front, length-take-le (r .passed) j passed);
+          passed = passed;
+          written = p .fits;
+        }

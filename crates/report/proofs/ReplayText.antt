@@ -39,6 +39,13 @@ by-rest : (j : List ℕ) {why : ℕ} {C : Type 0} → why ≡ stopAtEnd j → (e
 by-rest j e used cut =
     cases (eqb (length (unread j)) 0) (λ q. used q (e ∙ ap (λ (t : Bool). cond t 0 3) q)) (λ q. cut q (e ∙ ap (λ (t : Bool). cond t 0 3) q))
 
+-- the lines of the first exchanges and those of the others, whatever the line of an exchange is
+pub lines-split : (line : Exchange State → List ℕ) (k : ℕ) (xs : List (Exchange State))
+    → flatten (map line (take k xs)) ++ flatten (map line (drop k xs)) ≡ flatten (map line xs)
+lines-split line k xs =
+    sym (flatten-append (map line (take k xs)) (map line (drop k xs)))
+    ∙ ap flatten (sym (map-append line (take k xs) (drop k xs)) ∙ ap (map line) (take-append-drop k xs))
+
 -- what r says of the text of the journal j, which begins at a place, from the state s
 pub record TextOf (s : State) (place : ℕ) (j o : List ℕ) (r : ReplayResult) : Type 0 where
   pub few : 4 * r .messages ≤ r .passed
@@ -60,25 +67,26 @@ module _ (j o : List ℕ) (s : State) (valid : ValidState s) where
   abbrev ms : List (List ℕ)
   ms = take (r .messages) (framesOf j)
 
-  done : take (r .messages) xs ≡ runFrames stepState s ms
+  -- the exchanges of the messages done, and their frames
+  pub run-done : take (r .messages) xs ≡ runFrames stepState s ms
   unfolding runOf
-  done = run-take stepState (r .messages) s (framesOf j)
+  run-done = run-take stepState (r .messages) s (framesOf j)
 
-  count : length ms ≡ r .messages
+  pub frames-done : length ms ≡ r .messages
   unfolding runOf
-  count =
+  frames-done =
       let l = length-run stepState s (framesOf j) in
       length-take-le (r .messages) (framesOf j) (omega (arith, replay-prefix j s o valid .not-more))
 
   passed : r .passed ≡ length (flatten ms)
   passed =
       ap (λ (x : ReplayResult). x .passed) (replay-prefix j s o valid .equal)
-      ∙ ap (λ (fs : List (List ℕ)). length (flatten fs)) (ap exchangeFrames done ∙ frames-run stepState s ms)
+      ∙ ap (λ (fs : List (List ℕ)). length (flatten fs)) (ap exchangeFrames run-done ∙ frames-run stepState s ms)
 
   written : r .written ≡ length (flatten (exchangeAnswers (runFrames stepState s ms)))
   written =
       ap (λ (x : ReplayResult). x .written) (replay-prefix j s o valid .equal)
-      ∙ ap (λ (ys : List (Exchange State)). length (flatten (exchangeAnswers ys))) done
+      ∙ ap (λ (ys : List (Exchange State)). length (flatten (exchangeAnswers ys))) run-done
 
   -- the frames done, and what stands behind them
   split : j ≡ flatten ms ++ (flatten (drop (r .messages) (framesOf j)) ++ unread j)
@@ -91,18 +99,30 @@ module _ (j o : List ℕ) (s : State) (valid : ValidState s) where
   all-frame : forAll isFrame ms ≡ true
   all-frame = all-take isFrame (r .messages) (framesOf j) (all-frames j)
 
+  -- the answers to them stand first in the buffer
+  pub answers-done : let answers : List ℕ = flatten (exchangeAnswers (runFrames stepState s ms)) in r .buffer ≡ answers ++ drop (length answers) o
+  answers-done =
+      ap (λ (x : ReplayResult). x .buffer) (replay-prefix j s o valid .equal)
+      ∙ patch-start o (flatten (exchangeAnswers (take (r .messages) xs)))
+      ∙ ap (λ (ys : List (Exchange State)). flatten (exchangeAnswers ys) ++ drop (length (flatten (exchangeAnswers ys))) o) run-done
+
+  -- the rest of the journal meets the board that was left
+  pub run-resumed : runOf stepState (decode (r .board)) (drop (r .passed) j) ≡ drop (r .messages) xs
+  run-resumed =
+      let t : State = lastState s (take (r .messages) xs) in
+      let board : decode (r .board) ≡ t =
+      ap (λ (x : ReplayResult). decode (x .board)) (replay-prefix j s o valid .equal)
+      ∙ decode-encode t (valid-after j s (r .messages) valid .fits)
+      in
+      ap (λ (x : State). runOf stepState x (drop (r .passed) j)) board ∙ replay-resumed j s o valid
+
   lines-done : linesIn (r .messages) j (r .buffer) ≡ flatten (map exchangeLine (take (r .messages) xs))
   lines-done =
       let answers : List ℕ = flatten (exchangeAnswers (runFrames stepState s ms)) in
-      let buffer : r .buffer ≡ answers ++ drop (length answers) o =
-      ap (λ (x : ReplayResult). x .buffer) (replay-prefix j s o valid .equal)
-      ∙ patch-start o (flatten (exchangeAnswers (take (r .messages) xs)))
-      ∙ ap (λ (ys : List (Exchange State)). flatten (exchangeAnswers ys) ++ drop (length (flatten (exchangeAnswers ys))) o) done
-      in
-      ap₂ (λ (k : ℕ) (a : List ℕ). linesIn k j a) (sym count) buffer
+      ap₂ (λ (k : ℕ) (a : List ℕ). linesIn k j a) (sym frames-done) answers-done
       ∙ ap (λ (x : List ℕ). linesIn (length ms) x (answers ++ drop (length answers) o)) split
       ∙ lines-run s ms _ _ valid all-frame
-      ∙ sym (ap (λ (ys : List (Exchange State)). flatten (map exchangeLine ys)) done)
+      ∙ sym (ap (λ (ys : List (Exchange State)). flatten (map exchangeLine ys)) run-done)
 
   behind-done : length j ≡ r .passed + (length (flatten (drop (r .messages) (framesOf j))) + length (unread j))
   behind-done =
@@ -120,13 +140,6 @@ module _ (j o : List ℕ) (s : State) (valid : ValidState s) where
   unfolding runText
   text-resumed place =
       let k : ℕ = r .messages in
-      let t : State = lastState s (take k xs) in
-      let board : decode (r .board) ≡ t =
-      ap (λ (x : ReplayResult). decode (x .board)) (replay-prefix j s o valid .equal) ∙ decode-encode t (valid-after j s k valid .fits)
-      in
-      let later : runOf stepState (decode (r .board)) (drop (r .passed) j) ≡ drop k xs =
-      ap (λ (x : State). runOf stepState x (drop (r .passed) j)) board ∙ replay-resumed j s o valid
-      in
       let front : List ℕ = flatten (map exchangeLine (take k xs)) in
       let back : List ℕ = flatten (map exchangeLine (drop k xs)) in
       let l = length-drop (r .passed) j in
@@ -136,14 +149,10 @@ module _ (j o : List ℕ) (s : State) (valid : ValidState s) where
       ap (λ (u : List ℕ). ending (place + r .passed) u (length (drop (r .passed) j))) (unread-resumed j s o valid)
       ∙ ap (λ (n : ℕ). cond (eqb (length (unread j)) 0) [] (cutLine n)) place-same
       in
-      let whole : front ++ back ≡ flatten (map exchangeLine xs) =
-      sym (flatten-append (map exchangeLine (take k xs)) (map exchangeLine (drop k xs)))
-      ∙ ap flatten (sym (map-append exchangeLine (take k xs) (drop k xs)) ∙ ap (map exchangeLine) (take-append-drop k xs))
-      in
       ap₂ (λ (x y : List ℕ). x ++ y) lines-done
-      (ap₂ (λ (ys : List (Exchange State)) (z : List ℕ). flatten (map exchangeLine ys) ++ z) later end)
+      (ap₂ (λ (ys : List (Exchange State)) (z : List ℕ). flatten (map exchangeLine ys) ++ z) run-resumed end)
       ∙ sym (append-assoc front back (ending place (unread j) (length j)))
-      ∙ ap (λ (x : List ℕ). x ++ ending place (unread j) (length j)) whole
+      ∙ ap (λ (x : List ℕ). x ++ ending place (unread j) (length j)) (lines-split exchangeLine k xs)
 
   -- all messages done
   all-done : r .messages ≡ length xs → linesIn (r .messages) j (r .buffer) ≡ flatten (map exchangeLine xs)
@@ -160,7 +169,7 @@ module _ (j o : List ℕ) (s : State) (valid : ValidState s) where
   pub text-of : (place : ℕ) → TextOf s place j o r
   unfolding runText exchangeAnswers runFrames flatten
   text-of place = record {
-    few = let f = frames-size ms all-frame in let c = count in let p = passed in omega arith;
+    few = let f = frames-size ms all-frame in let c = frames-done in let p = passed in omega arith;
     inside = let h = behind-done in omega arith;
     used = λ e. by-used e (replay-prefix j s o valid .reason);
     cut = λ e. by-cut e (replay-prefix j s o valid .reason);
@@ -191,7 +200,7 @@ module _ (j o : List ℕ) (s : State) (valid : ValidState s) where
           (λ z.
           let n = eqb-false (r .messages) 0 z in
           let f = frames-size ms all-frame in
-          let c = count in
+          let c = frames-done in
           let p = passed in
           omega arith)
       by-falls e h (atEnd m f) = by-rest j f (λ q z. absurd (omega arith)) (λ q z. absurd (omega arith))

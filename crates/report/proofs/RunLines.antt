@@ -29,7 +29,7 @@ module _ (number : ℕ) (body rest : List ℕ) (n : number < 65536) (l : length 
   stated : lengthField behind ≡ 2 + length body
   stated = frame-stated number body rest (omega arith)
 
-  answer-length : answerLength behind ≡ 4 + length body
+  pub answer-length : answerLength behind ≡ 4 + length body
   answer-length =
       let s = stated in
       let k = length-frame number body in

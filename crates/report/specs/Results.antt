@@ -23,10 +23,19 @@ abbrev pub reportSize : Report → Option ℕ
 reportSize (Written n) = some n
 reportSize TooShort = none
 
+-- .. and as a number, 0 where it is
+abbrev pub writtenSize : Report → ℕ
+writtenSize (Written n) = n
+writtenSize TooShort = 0
+
 abbrev pub reported : Report → List ℕ → ReportResult
 reported r t = record { size = reportSize r; text = t }
 
--- a text buffer that is too short is left as it was; in one that is not, the text stands first, and the bytes behind it are as they were
+-- a text in a buffer that has to have room for `limit` bytes: one that is too short is left as it was; in one that is not, the text stands first,
+-- and the bytes behind it are as they were
+unfoldable pub textResult : ℕ → List ℕ → List ℕ → ReportResult
+textResult limit x t =
+    cond (ltb (length t) limit) (record { size = none; text = t }) (record { size = some (length x); text = patch t 0 x })
+
 unfoldable pub reportResult : List ℕ → List ℕ → ReportResult
-reportResult j t =
-    cond (ltb (length t) reportLimit) (record { size = none; text = t }) (record { size = some (length (reportOf j)); text = patch t 0 (reportOf j) })
+reportResult j t = textResult reportLimit (reportOf j) t

@@ -1,5 +1,5 @@
 // The text that the program prints for a journal.
-mod line;
+pub mod line;
 mod message_lines;
 
 ghost use mathlib.Core.Path.{_≡_};
@@ -18,12 +18,16 @@ use board::BOARD_SIZE;
 use layout::run::write_bytes;
 use replay::Stop;
 use replay::replay_sound;
+use step::ANSWER_LIMIT;
 
 // "a journal of at most 60,000 bytes"
 pub const JOURNAL_LIMIT: usize = 60000;
 
 // No text is longer: 15,000 lines of at most fourteen bytes, and one of ten.
 pub const REPORT_LIMIT: usize = 14 * (JOURNAL_LIMIT / 4) + 10;
+
+// The greatest L of an answer.
+pub const ANSWER_MOST: usize = ANSWER_LIMIT - 2;
 
 // The answer buffer of the replays.
 const ANSWERS_SIZE: usize = 4096;

@@ -7,7 +7,8 @@ ghost use Rattle.layout.specs.Bytes.{bytesWritten, putBytes};
 ghost use Rattle.report.specs.Report.{digitCharacter, hexadecimal, digitCount, decimal, space, lineFeed, messageLine, cutLine};
 use layout::run::write_bytes;
 
-fn digit_character(d: usize) -> u8
+// One of the sixteen digits.
+pub fn digit_character(d: usize) -> u8
     requires { ⌜ d < 16 ⌝ }
     ensures { λ r. ⌜ r ≡ digitCharacter d ⌝ }
 {

@@ -4,14 +4,11 @@ ghost use Prim.Native.Nat.{_+_, _*_, _≤_};
 ghost use lib.ListN.{length};
 ghost use Rattle.layout.specs.Bytes.{bytesWritten, putBytes};
 ghost use Rattle.report.specs.MessageLines.{linesIn};
+use crate::ANSWER_MOST;
 use crate::line::write_message;
 use reader::frame::frame_length;
 use reader::frame::frame_length_up_to;
 use reader::frame::kind;
-use step::ANSWER_LIMIT;
-
-// The greatest L of an answer.
-const ANSWER_MOST: usize = ANSWER_LIMIT - 2;
 
 // A line for each message; none behind bytes that are no frame, or no answer, which a replay does not leave. The kind of an answer is its number.
 pub(crate) fn write_lines(

@@ -25,8 +25,6 @@ print-journal-spec =
     (λ c κs. search needs)
     (λ c. search needs)
     (λ c. search needs)
-    (λ c κs. search needs)
-    (λ c. search needs)
     (λ c. search needs)
     (λ c. let p = c .before .before in (inside (p .before .before .before .before), p .print-lines .ensures))
     (λ c. search needs)

@@ -5,12 +5,14 @@ use lib.Dec.{lit≤}
 use borrow.Author.Needs.{needs}
 use Rattle.model.specs.Board.{emptyBoard}
 use Rattle.model.proofs.SoundnessTheorems.{empty-sound}
+use Rattle.report.specs.Results.{reportResult}
 use Rattle.report.proofs.ReportLaws.{too-short, too-long, replayed-text}
 use Rattle.report.proofs.lines.Statement.{statement}
 use Rattle.report.proofs.lines.Tie as tie
 
 returns : tie.Need-returns
-returns c = too-short _ _ (c .if1 .taken)
+unfolding reportResult
+returns c = too-short _ _ _ (c .if1 .taken)
 
 returns-2 : tie.Need-returns-2
 returns-2 c =

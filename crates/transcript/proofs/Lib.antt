@@ -1,0 +1,3 @@
+pub mod AnswerLineLaws
+pub mod AnswerTheorems
+pub mod AnswerExamples
