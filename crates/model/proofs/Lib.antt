@@ -12,8 +12,6 @@ pub mod ReadingLaws
 pub mod WritingLaws
 pub mod StoredValues
 pub mod SoundnessLaws
-pub mod AllRecordLaws
-pub mod DamagedBoards
 pub mod EmptyBoard
 pub mod RuleLaws
 pub mod SoundnessTheorems

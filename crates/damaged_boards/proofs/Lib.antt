@@ -1,0 +1,2 @@
+pub mod AllRecordLaws
+pub mod DamagedBoards
