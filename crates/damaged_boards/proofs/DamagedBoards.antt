@@ -1,6 +1,6 @@
 -- For each clause of soundness boards that break it and no other: a sound board with bytes written into one record. What the clauses say of
 -- such a board is computed on its records.
-use Prim.Native.Nat.{ℕ, zero, suc, _+_, _-_, _*_}
+use Prim.Native.Nat.{ℕ, _+_, _-_, _*_}
 use mathlib.Core.Path.{_≡_, refl, sym, ap, _∙_}
 use mathlib.Core.List.{List, [], _∷_, _++_, map, flatten, sum, append-nil, map-append}
 use mathlib.Core.Bool.{Bool, true, false}
@@ -17,6 +17,7 @@ use Rattle.model.specs.Board.{boardSize, storedBytes, recordBytes, headerFields
 use Rattle.model.specs.Soundness.{countsWithinLimits, unusedRecordsZero, userStrings, postStrings, pendingStrings, stringsWithinLimits, fillerZero, numbersNotZero, numbersDistinct, pendingNotRegistered, friendsSymmetric, noOwnBit, bitsBelowCount, notesRequested, ownersRegistered, visibilityValid, friendsNotRequested, recordClauses, stateClauses, zeroWithoutUsers, clauseResults, isSound}
 use Rattle.model.proofs.StateRules.{storedFits, tableFits, stateFits}
 use Rattle.model.proofs.BoardTheorems.{fitting, right-sizes, length-encode, cut-encode}
+use Rattle.model.proofs.CaseTable.{numbersFrom}
 use Rattle.damaged_boards.proofs.AllRecordLaws.{allRecords, allSizes, boardTables, flatten-all, sizes-all, length-all, cut-all, Write, writesBoard, writesRecords, writesPass, writes-records}
 
 -- ---- writes by table, record and place in the record
@@ -110,10 +111,6 @@ exampleState = record {
   pending = record { number = 20; note = 97 ∷ [] } ∷ record { number = 21; note = [] } ∷ [];
   notes = [] ∷ [] ∷ (98 ∷ []) ∷ replicate 1021 [];
 }
-
-numbersFrom : ℕ → ℕ → List ℕ
-numbersFrom first zero = []
-numbersFrom first (suc n) = first ∷ numbersFrom (suc first) n
 
 fullState : State
 fullState = record {
