@@ -13,11 +13,11 @@ enum { ADMIN = 7, COLLEAGUE = 8, PASSWORD = 1, POST = 9 };
 static uint8_t board[STAFF_BOARD_SIZE], replayed[STAFF_BOARD_SIZE];
 static uint8_t answer[STAFF_BOARD_ANSWER_LIMIT], answers[10 * STAFF_BOARD_ANSWER_LIMIT];
 
-/* The messages that were sent, one behind the other; the last one begins at `start`. */
+/* The messages that were sent, one after the other; the last one begins at `start`. */
 static uint8_t journal[1000];
 static size_t start, end;
 
-/* Writes a message behind the others and sends it: the number of the answer, or of the writer's refusal. */
+/* Writes a message after the others and sends it: the number of the answer, or of the writer's refusal. */
 static unsigned send(uint32_t kind, size_t count, const uint64_t *values, const char *lent) {
     uint32_t result = staff_board_write(kind, values, count, (const uint8_t *)lent, strlen(lent), journal + end, sizeof journal - end);
     if (staff_board_number(result) != 0) {
@@ -53,7 +53,7 @@ int main(void) {
 
     uint8_t counts[STAFF_BOARD_COUNTS_SIZE];
     uint32_t stop = staff_board_replay(journal, end, replayed, sizeof replayed, answers, sizeof answers, counts, sizeof counts);
-    printf("replayed %u messages\n", (unsigned)counts[0]);
+    printf("replayed %llu messages\n", (unsigned long long)staff_board_messages_done(counts));
     int same = stop == 0 && memcmp(board, replayed, sizeof board) == 0 && staff_board_sound(replayed, sizeof replayed) == 1;
     return refused == 0 && is_read && same ? 0 : 1;
 }

@@ -63,7 +63,7 @@ fn main() -> Result<(), Box<dyn Error>> {
     // the post is for friends until its owner says otherwise
     let read = READ.to_vec()?;
     match board.step(&read, &mut answer) {
-        Err(refusal) => println!("refused with {}: {refusal}", refusal.number()),
+        Err(refusal) => println!("refused with {}: {}", refusal.number(), refusal.explain(READ.kind())),
         Ok(_) => unreachable!("the post is not public yet"),
     }
     board.step(&PUBLISH.to_vec()?, &mut answer)?;

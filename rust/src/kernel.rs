@@ -77,15 +77,8 @@ pub fn replay(journal: &[u8], board: &mut [u8], answers: &mut [u8]) -> Replayed 
         )
     };
     let count = |i: usize| u64::from_le_bytes(counts[8 * i..8 * i + 8].try_into().expect("eight bytes")) as usize;
-    let stop = match stop {
-        0 => Stop::JournalUsed,
-        1 => Stop::BoardUnsound,
-        2 => Stop::BufferShort,
-        3 => Stop::FrameCut,
-        _ => unreachable!("the counts have 24 bytes"),
-    };
     Replayed {
-        stop,
+        stop: Stop::of_number(stop),
         messages: count(0),
         passed: count(1),
         written: count(2),
@@ -120,12 +113,14 @@ pub fn read(message: &[u8], values: &mut [u64]) -> Outcome {
 mod tests {
     use super::staff_board_replay;
     use crate::Message;
+    use alloc::vec;
 
     /// Counts of another length than 24 bytes: 255, and board, answers and counts are as they were.
     #[test]
     fn other_counts_are_refused() {
-        let start = Message::StartSys { user: 7, password: 1 };
-        let start = start.to_vec().expect("a frame");
+        let mut start = [0; 16];
+        let message = Message::StartSys { user: 7, password: 1 };
+        assert_eq!(message.write(&mut start), Ok(16));
         for length in [0, 1, 23, 25, 32] {
             let mut board = vec![0; crate::BOARD_SIZE];
             let mut answers = [3; crate::ANSWER_LIMIT];

@@ -1,7 +1,9 @@
 //! Messages by their fields. The kernel's writer and reader turn them into frames and back; here they only get names and types.
 
 use crate::{kernel, Refusal};
-use std::fmt;
+#[cfg(feature = "alloc")]
+use alloc::vec::Vec;
+use core::fmt;
 
 /// The bytes of the largest frame of a message.
 pub const FRAME_LIMIT: usize = 278;
@@ -23,6 +25,7 @@ macro_rules! messages {
         }
     ) => {
         $(#[$about])*
+        #[allow(missing_docs)] // of the fields, which the enum's own words are about
         pub enum Message<'a> {
             $($(#[$doc])* #[doc = concat!("(", stringify!($kind), ")")] $case { $($field: $type),* },)*
         }
@@ -41,10 +44,11 @@ macro_rules! messages {
                 }
             }
 
-            fn take(kind: u16, call: &mut ReadCall<'a>) -> Message<'a> {
+            /// None for a kind that an archive newer than this crate has.
+            fn take(kind: u16, call: &mut ReadCall<'a>) -> Option<Message<'a>> {
                 match kind {
-                    $($kind => Message::$case { $($field: Field::take(call)),* },)*
-                    _ => unreachable!("the kernel has read a message of kind {kind:04x}"),
+                    $($kind => Some(Message::$case { $($field: Field::take(call)),* }),)*
+                    _ => None,
                 }
             }
         }
@@ -52,8 +56,8 @@ macro_rules! messages {
 }
 
 messages! {
-    /// A message: a case for each kind with its fields, named by CoSMed's action. `user` and `password` are U and P of document 01, `colleague` is V,
-    /// `post` N and `new_password` P2; staff and post numbers are not 0. Strings are any bytes: a name at most 24, an info 56, a title 40, a text 256, a
+    /// A message: a case for each kind with its fields, named by CoSMed's action. `user` and `password` are U and P of `docs/FORMAT.md`, `colleague` is
+    /// V, `post` N and `new_password` P2; staff and post numbers are not 0. Strings are any bytes: a name at most 24, an info 56, a title 40, a text 256, a
     /// note 24. Fields are not tested here: what no frame can carry is refused by the kernel when it is written.
     ///
     /// ```
@@ -72,6 +76,7 @@ messages! {
     /// # }
     /// ```
     #[derive(Clone, Copy, Debug, PartialEq, Eq, Hash)]
+    #[non_exhaustive]
     pub enum Message<'a> {
         /// Start: `user` becomes first user and admin.
         0x0101 StartSys { user: u32, password: u64 }
@@ -133,7 +138,7 @@ messages! {
 }
 
 impl<'a> Message<'a> {
-    /// Writes the frame to the start of `frame` and gives its length; bytes behind it keep their contents. A refusal writes nothing.
+    /// Writes the frame to the start of `frame` and gives its length; bytes after it keep their contents. A refusal writes nothing.
     pub fn write(&self, frame: &mut [u8]) -> Result<usize, WriteRefusal> {
         let mut call = WriteCall {
             values: [0; VALUES_LIMIT],
@@ -144,15 +149,14 @@ impl<'a> Message<'a> {
         self.put(&mut call);
         let lent = &call.lent[..call.end.min(STRINGS_LIMIT)];
         let done = kernel::write(self.kind().into(), &call.values[..call.count], lent, frame);
-        match done.number {
-            0 => Ok(done.written),
-            5 => Err(WriteRefusal::NotCarried),
-            13 => Err(WriteRefusal::BufferShort),
-            number => unreachable!("the writer has no refusal {number}"),
+        match WriteRefusal::of_number(done.number) {
+            None => Ok(done.written),
+            Some(refusal) => Err(refusal),
         }
     }
 
     /// The frame; a buffer is never short here.
+    #[cfg(feature = "alloc")]
     pub fn to_vec(&self) -> Result<Vec<u8>, WriteRefusal> {
         let mut frame = [0; FRAME_LIMIT];
         let length = self.write(&mut frame)?;
@@ -164,21 +168,21 @@ impl<'a> Message<'a> {
     pub fn read(frame: &'a [u8]) -> Result<Message<'a>, Refusal> {
         let mut values = [0; VALUES_LIMIT];
         let done = kernel::read(frame, &mut values);
-        if done.number != 0 {
-            return Err(Refusal::of_number(done.number).expect("there is room for the values, so it is 3, 4 or 5"));
+        if let Some(refusal) = Refusal::of_number(done.number) {
+            return Err(refusal);
         }
         let kind = u16::from_le_bytes([frame[2], frame[3]]);
         let mut call = ReadCall {
             values: values.into_iter(),
             body: &frame[4..],
         };
-        Ok(Message::take(kind, &mut call))
+        Message::take(kind, &mut call).ok_or(Refusal::Kind)
     }
 }
 
 // ---- fields as values
 
-/// What a message has for [`write()`]: its values, and its strings one behind the other.
+/// What a message has for [`write()`]: its values, and its strings one after the other.
 struct WriteCall {
     values: [u64; VALUES_LIMIT],
     count: usize,
@@ -197,7 +201,7 @@ impl WriteCall {
 
 /// What [`read()`] gave: the values that are not taken yet, and the body in which the strings lie.
 struct ReadCall<'a> {
-    values: std::array::IntoIter<u64, VALUES_LIMIT>,
+    values: core::array::IntoIter<u64, VALUES_LIMIT>,
     body: &'a [u8],
 }
 
@@ -256,7 +260,7 @@ pub struct Outcome {
 }
 
 /// The frame of a message that is given by its kind and its values, in field order: a number is one value, a string two, its start in the lent bytes and
-/// its length. It stands first in `frame`, and bytes behind it keep their contents.
+/// its length. It stands first in `frame`, and bytes after it keep their contents.
 ///
 /// Refused, with nothing written: 5 for a message that no frame can carry (unknown kind, another count of values, a value that its field cannot hold, a
 /// string over its limit or not within the lent bytes); else 13 for a buffer shorter than the frame.
@@ -267,7 +271,7 @@ pub fn write(kind: u32, values: &[u64], lent: &[u8], frame: &mut [u8]) -> Outcom
 }
 
 /// The way back: the values of a message, in field order, of which strings are places in the body, the message without its four head bytes. They stand
-/// first in `values`, and values behind them stay. The kind is in the message's bytes 2 and 3.
+/// first in `values`, and values after them stay. The kind is in the message's bytes 2 and 3.
 ///
 /// Refused, with nothing written: 3, 4 and 5 as in a step; else 13 for a slice of fewer values than the message has.
 ///
@@ -278,30 +282,64 @@ pub fn read(message: &[u8], values: &mut [u64]) -> Outcome {
 
 /// Why a message was not written.
 #[derive(Clone, Copy, Debug, PartialEq, Eq, Hash)]
-#[repr(u16)]
+#[non_exhaustive]
 pub enum WriteRefusal {
-    /// no frame can carry the message: a staff or post number 0, a string over its limit, visibility above 1
-    NotCarried = 5,
-    /// buffer shorter than the frame
-    BufferShort = 13,
+    /// 5: no frame can carry the message: a staff or post number is 0, a string is over its limit, or visibility is above 1.
+    NotCarried,
+    /// 13: the buffer is shorter than the frame.
+    BufferShort,
+    /// A number that this crate has no name for: the archive is newer than the crate.
+    Unknown(u16),
 }
 
 impl WriteRefusal {
+    /// The refusal with a number; none for 0, which says that the message was written.
+    pub fn of_number(number: u16) -> Option<WriteRefusal> {
+        match number {
+            0 => None,
+            5 => Some(WriteRefusal::NotCarried),
+            13 => Some(WriteRefusal::BufferShort),
+            _ => Some(WriteRefusal::Unknown(number)),
+        }
+    }
+
     /// The number that the kernel returned.
     pub fn number(self) -> u16 {
-        self as u16
+        match self {
+            WriteRefusal::NotCarried => 5,
+            WriteRefusal::BufferShort => 13,
+            WriteRefusal::Unknown(number) => number,
+        }
     }
 }
 
 impl fmt::Display for WriteRefusal {
     fn fmt(&self, f: &mut fmt::Formatter<'_>) -> fmt::Result {
         f.write_str(match self {
-            WriteRefusal::NotCarried => {
-                "no frame can carry the message: a staff or post number 0, a string over its limit, visibility above 1"
-            }
-            WriteRefusal::BufferShort => "buffer shorter than the frame",
+            WriteRefusal::NotCarried => "A number of the message is not allowed, or a string is too long.",
+            WriteRefusal::BufferShort => "The buffer is shorter than the frame.",
+            WriteRefusal::Unknown(_) => "The message was not written for a reason that is not known here.",
         })
     }
 }
 
-impl std::error::Error for WriteRefusal {}
+impl core::error::Error for WriteRefusal {}
+
+#[cfg(test)]
+mod tests {
+    use super::WriteRefusal;
+
+    #[test]
+    fn zero_alone_is_no_refusal() {
+        assert_eq!(WriteRefusal::of_number(0), None);
+        for number in 1..=u16::MAX {
+            let refusal = WriteRefusal::of_number(number).expect("a refusal");
+            assert_eq!(refusal.number(), number);
+            assert_eq!(
+                matches!(refusal, WriteRefusal::Unknown(_)),
+                ![5, 13].contains(&number),
+                "{number}"
+            );
+        }
+    }
+}

@@ -3,6 +3,7 @@
 //!
 //! The pairs meet the hypotheses by the way in which they are made, and what is closed is read off the accepted messages. A copy of the reference that
 //! tells whether the text is empty to those who may not read it is caught.
+#![cfg(feature = "alloc")] // for Message::to_vec
 
 mod generate;
 mod reference;
@@ -38,7 +39,7 @@ impl History {
 
     fn accept(&mut self, message: &[u8]) {
         let number = |at: usize| u32::from_le_bytes(message[at..at + 4].try_into().expect("four bytes"));
-        let (u, v) = (4, 16); // the places of U, and of V or N behind the password
+        let (u, v) = (4, 16); // the offsets of U, and of V or N after the password
         match u16::from_le_bytes([message[2], message[3]]) {
             0x0101 => drop(self.registered.insert(number(u))),
             0x0202 => drop(self.registered.insert(number(v))),

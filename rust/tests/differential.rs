@@ -8,13 +8,14 @@
 //! the limit allowed in a title, a note, a name and an info, visibility 2 allowed in a message and on a board, passwords compared in their low halves, the
 //! buffer tested before the board, a board of a byte more that is sound, and L of 277. So was a wrapper that asks for room for two answers before it goes
 //! on.
+#![cfg(feature = "alloc")] // for Message::to_vec
 
 mod generate;
 mod reference;
 
 use generate::{any_message, any_state, damage, likely_message, unfit_message, Random, Range, NARROW, WIDE};
 use reference::{State, ANSWER_LIMIT, BOARD_SIZE};
-use staff_board::Answer;
+use staff_board::{answers, messages, Answer, Stop};
 use std::fmt::{Debug, Write};
 
 type Step = fn(&[u8], &mut [u8], &mut [u8]) -> Answer;
@@ -261,7 +262,7 @@ fn damaged_board(step: Step, random: &mut Random, state: &State, board: &[u8]) -
     Ok(number)
 }
 
-/// A state with records, friends and requests in every table, and room behind them.
+/// A state with records, friends and requests in every table, and room after them.
 fn used_state(random: &mut Random) -> State {
     loop {
         let state = any_state(random);
@@ -336,11 +337,17 @@ fn replay(random: &mut Random, journal: &[u8], board: &[u8], room: usize) -> Res
     let mut out = random.bytes(room);
     let mut expected_out = out.clone();
     let r = staff_board::replay(journal, &mut found, &mut out);
-    let counts = (r.stop as u32, r.messages, r.passed, r.written);
+    let counts = (r.stop.number(), r.messages, r.passed, r.written);
     let expected_counts = reference::replay(journal, &mut expected, &mut expected_out);
     compare((counts, &found, &out), (expected_counts, &expected, &expected_out))
         .map_err(|what| describe(&what, board, journal, &[], room))?;
-    Ok(r.stop as usize)
+    assert_eq!(answers(&out[..r.written]).count(), r.messages);
+    if matches!(r.stop, Stop::JournalUsed | Stop::FrameCut) {
+        let mut frames = messages(journal);
+        let count = frames.by_ref().count();
+        assert_eq!((count, frames.rest()), (r.messages, &journal[r.passed..]));
+    }
+    Ok(r.stop.number() as usize)
 }
 
 // ---- the tests
@@ -408,8 +415,8 @@ fn old_tail(message: &[u8], board: &mut [u8], out: &mut [u8]) -> Answer {
     answer
 }
 
-/// A byte behind the answer's frame is cleared.
-fn byte_behind(message: &[u8], board: &mut [u8], out: &mut [u8]) -> Answer {
+/// A byte after the answer's frame is cleared.
+fn byte_after(message: &[u8], board: &mut [u8], out: &mut [u8]) -> Answer {
     let answer = staff_board::step(message, board, out);
     if answer.written > 0 && answer.written < out.len() {
         out[answer.written] = 0;
@@ -445,7 +452,7 @@ fn faults_are_found() {
     let faults: [(&str, Step); 5] = [
         ("admin_missing", admin_missing),
         ("old_tail", old_tail),
-        ("byte_behind", byte_behind),
+        ("byte_after", byte_after),
         ("buffer_of_518", buffer_of_518),
         ("last_byte_untested", last_byte_untested),
     ];

@@ -1,5 +1,7 @@
 //! The header `include/staff_board.h`: its constants are those of the crate, its list of fields is that of the reference and names them as the crate does,
-//! and the example in C, which makes all calls, is compiled with all warnings, linked with the archive and run.
+//! the example in C, which makes all calls, is compiled with all warnings, linked with the archive and run, and so is a replay in
+//! parts on a small stack; that one is compiled as C++ too.
+#![cfg(feature = "alloc")] // for Message::to_vec
 
 mod generate;
 mod reference;
@@ -17,10 +19,10 @@ fn header() -> String {
     std::fs::read_to_string(top().join("include/staff_board.h")).expect("the header")
 }
 
-/// The number behind `NAME = `.
+/// The number after `NAME = `.
 fn constant(header: &str, name: &str) -> usize {
-    let (_, behind) = header.split_once(&format!(" {name} = ")).expect(name);
-    let digits: String = behind.chars().take_while(char::is_ascii_digit).collect();
+    let (_, after) = header.split_once(&format!(" {name} = ")).expect(name);
+    let digits: String = after.chars().take_while(char::is_ascii_digit).collect();
     digits.parse().expect(name)
 }
 
@@ -117,22 +119,61 @@ fn values_stand_in_the_order_of_the_list() {
     }
 }
 
-#[test]
-fn the_example_in_c_runs() {
-    let program = Path::new(env!("CARGO_TARGET_TMPDIR")).join("post_and_read");
-    let compiled = Command::new("cc")
-        .args(["-std=c99", "-Wall", "-Wextra", "-pedantic", "-Werror", "-Iinclude"])
-        .args(["examples/post_and_read.c", "target/staticlib/libabi.a", "-o"])
-        .arg(&program)
+/// Runs a compiler with these words, all warnings on.
+fn compile(compiler: &str, words: &[&str]) {
+    let compiled = Command::new(compiler)
+        .args(["-Wall", "-Wextra", "-pedantic", "-Werror", "-pthread", "-Iinclude"])
+        .args(words)
         .current_dir(top())
         .status()
-        .expect("a C compiler is at hand");
+        .expect("a compiler for C and C++ is at hand");
     assert!(compiled.success());
-    let run = Command::new(&program).output().expect("it runs");
-    assert!(run.status.success());
+}
+
+/// Compiles a program in C and links it with the archive.
+fn compiled(source: &str) -> PathBuf {
+    let name = Path::new(source).file_stem().expect("a name");
+    let program = Path::new(env!("CARGO_TARGET_TMPDIR")).join(name);
+    let output = program.to_str().expect("text");
+    compile("cc", &["-std=c99", source, "target/staticlib/libabi.a", "-o", output]);
+    program
+}
+
+fn printed(program: &mut Command) -> String {
+    let run = program.output().expect("it runs");
     let printed = String::from_utf8(run.stdout).expect("text");
+    assert!(run.status.success(), "{printed}");
+    printed
+}
+
+#[test]
+fn the_example_in_c_runs() {
     assert_eq!(
-        printed,
+        printed(&mut Command::new(compiled("examples/post_and_read.c"))),
         "refused with 10\nEarly shift starts at six.\nreplayed 8 messages\n"
     );
+}
+
+/// A program that makes calls of the header is one in C++ too.
+#[test]
+fn the_header_is_one_for_cpp() {
+    compile("c++", &["-x", "c++", "-fsyntax-only", "rust/tests/in_parts.c"]);
+}
+
+#[test]
+fn a_replay_in_parts_is_the_whole_replay() {
+    let program = compiled("rust/tests/in_parts.c");
+    for name in [
+        "week",
+        "shortest-frames-15000",
+        "lists-of-posts-3000",
+        "cut-at-59996",
+        "empty",
+    ] {
+        let path = top().join(format!("crates/journals/data/{name}.journal"));
+        let journal = std::fs::read(&path).expect("a journal");
+        let done = staff_board::replay(&journal, &mut vec![0; staff_board::BOARD_SIZE], &mut vec![0; 8_000_000]);
+        let expected = format!("{} {} {}\n", done.messages, done.passed, done.written);
+        assert_eq!(printed(Command::new(&program).arg(&path)), expected, "{name}");
+    }
 }

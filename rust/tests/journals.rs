@@ -1,8 +1,10 @@
 //! The journals of `crates/journals/data` whose counts, answers and last boards are known: `journals.sums` has for each the stop and the counts of its
 //! replay from the empty board, and the SHA-256 of all answers and of the last board, taken by `sha256sum`.
 
+mod journals_printed;
 mod reference;
 
+use journals_printed::lines_of;
 use std::io::Write;
 use std::path::Path;
 use std::process::{Command, Stdio};
@@ -42,7 +44,7 @@ fn digests_are_those_known() {
         let mut answers = vec![0; 8_000_000];
         let replayed = staff_board::replay(&journal, &mut board, &mut answers);
         let found = [
-            replayed.stop as usize,
+            replayed.stop.number() as usize,
             replayed.messages,
             replayed.passed,
             replayed.written,
@@ -61,7 +63,7 @@ fn digests_are_those_known() {
         assert_eq!(
             counts,
             (
-                replayed.stop as u32,
+                replayed.stop.number(),
                 replayed.messages,
                 replayed.passed,
                 replayed.written
@@ -87,4 +89,32 @@ fn copies_are_the_journals() {
         count += 1;
     }
     assert_eq!(count, 13);
+}
+
+/// The bytes of a journal in words: what stands before the comments, in hexadecimal.
+fn bytes_in_words(text: &str) -> Vec<u8> {
+    let digits = text.lines().map(|line| line.split('#').next().expect("a first part"));
+    let bytes = digits.flat_map(str::split_whitespace);
+    bytes
+        .map(|byte| u8::from_str_radix(byte, 16).expect("a byte"))
+        .collect()
+}
+
+/// The journals of `journals/` are those that the gate runs, and the lines beside their messages are those that the program prints.
+#[test]
+fn journals_in_words_are_those_of_the_gate() {
+    let top = Path::new(env!("CARGO_MANIFEST_DIR")).join("..");
+    let mut count = 0;
+    for file in std::fs::read_dir(top.join("journals")).expect("journals in words") {
+        let path = file.expect("a file").path();
+        let name = path.file_stem().expect("a name").to_str().expect("text");
+        let text = std::fs::read_to_string(&path).expect("text");
+        let journal = std::fs::read(top.join(format!("crates/journals/data/{name}.journal"))).expect("a journal");
+        assert!(bytes_in_words(&text) == journal, "{name}");
+        let lines = text.lines().filter_map(|line| line.rsplit_once(" = "));
+        let lines: String = lines.map(|(_, line)| format!("{line}\n")).collect();
+        assert_eq!(lines, lines_of(name), "{name}");
+        count += 1;
+    }
+    assert_eq!(count, 18);
 }

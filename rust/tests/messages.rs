@@ -6,6 +6,7 @@
 //! string of just its limit refused, an empty string past the lent bytes, one at their end refused, values too many, a buffer of just the frame refused,
 //! and the limit of another string; of the reader room tested first, places that count from the message or from the length of the string, and room for
 //! just the values refused.
+#![cfg(feature = "alloc")] // for Message::to_vec
 
 mod generate;
 mod reference;
@@ -436,8 +437,8 @@ fn readers_agree() {
 
 // ---- faulty copies
 
-/// A byte behind the frame is cleared.
-fn byte_behind(kind: u32, values: &[u64], lent: &[u8], frame: &mut [u8]) -> Outcome {
+/// A byte after the frame is cleared.
+fn byte_after(kind: u32, values: &[u64], lent: &[u8], frame: &mut [u8]) -> Outcome {
     let done = staff_board::write(kind, values, lent, frame);
     if done.number == 0 && done.written < frame.len() {
         frame[done.written] = 0;
@@ -498,8 +499,8 @@ fn one_value_more(message: &[u8], values: &mut [u64]) -> Outcome {
     staff_board::read(message, values)
 }
 
-/// The values behind those of the message are cleared.
-fn values_behind(message: &[u8], values: &mut [u64]) -> Outcome {
+/// The values after those of the message are cleared.
+fn values_after(message: &[u8], values: &mut [u64]) -> Outcome {
     let done = staff_board::read(message, values);
     if done.number == 0 {
         values[done.written..].fill(0);
@@ -510,7 +511,7 @@ fn values_behind(message: &[u8], values: &mut [u64]) -> Outcome {
 #[test]
 fn faults_are_found() {
     let writers: [(&str, Write); 5] = [
-        ("byte_behind", byte_behind),
+        ("byte_after", byte_after),
         ("narrow_kind", narrow_kind),
         ("buffer_first", buffer_first),
         ("empty_past_end", empty_past_end),
@@ -519,7 +520,7 @@ fn faults_are_found() {
     let readers: [(&str, Read); 3] = [
         ("places_in_message", places_in_message),
         ("one_value_more", one_value_more),
-        ("values_behind", values_behind),
+        ("values_after", values_after),
     ];
     let writers = writers.map(|(name, write)| (name, writes(write, 9)));
     let readers = readers.map(|(name, read)| (name, reads(read, 10)));

@@ -1,4 +1,4 @@
-//! Documents 01 and 02 in plain safe Rust, to compare the kernel with: written from the papers alone, with structures and maps where the kernel has
+//! Documents 01 and 02 in plain safe Rust, to compare the kernel with, of which it has no line: structures and maps where the kernel has
 //! bytes at offsets. A board is read and written from its first byte to its last, and a message field by field.
 #![allow(dead_code)] // each test uses a part of it
 
@@ -55,7 +55,7 @@ pub struct State {
     pub requests: BTreeMap<(u32, u32), Vec<u8>>,
 }
 
-// ---- bytes, one behind the other
+// ---- bytes, one after the other
 
 /// Takes what stands next, or nothing if it is not there whole.
 struct Reader<'a> {
@@ -185,7 +185,7 @@ fn read_sound(board: &[u8]) -> Option<bool> {
         return None;
     }
     r.zeros(10)?;
-    // users and, behind them, pending registrations
+    // users and, after them, pending registrations
     let mut staff = [0; USERS + PENDING];
     let (mut friends, mut requests) = ([0; USERS], [0; USERS]);
     for i in 0..n {
@@ -634,7 +634,7 @@ pub fn frame_length(bytes: &[u8]) -> Option<usize> {
     ((2..=276).contains(&length) && 2 + length <= bytes.len()).then_some(2 + length)
 }
 
-/// The whole frames of a journal, one behind the other; it ends before one that is cut.
+/// The whole frames of a journal, one after the other; it ends before one that is cut.
 pub fn frames(journal: &[u8]) -> impl Iterator<Item = &[u8]> {
     let mut rest = journal;
     std::iter::from_fn(move || {
