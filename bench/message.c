@@ -5,7 +5,7 @@
 
 enum { HEAD = 4, L_MIN = 2, L_MAX = 276 };
 
-/* ---- fields, one behind the other */
+/* ---- fields, one after the other */
 
 struct reader {
     const uint8_t *at, *end;

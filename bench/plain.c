@@ -171,7 +171,7 @@ static enum number list_users(const struct board *b, struct writer *out) {
     return ACCEPTED;
 }
 
-/* The numbers of the users in a row, behind their count. */
+/* The numbers of the users in a row, after their count. */
 static enum number list_row(const struct board *b, uint32_t row, struct writer *out) {
     struct writer head = *out;
     uint16_t count = 0;

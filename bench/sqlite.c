@@ -168,7 +168,7 @@ static enum number answer_strings(struct board *b, enum query q, int64_t first, 
     return found ? ACCEPTED : NOT_FOUND;
 }
 
-/* The numbers of all rows, behind the count of rows. */
+/* The numbers of all rows, after the count of rows. */
 static enum number answer_list(struct board *b, enum query q, int64_t user, struct writer *out) {
     sqlite3_stmt *s = bind(b, q, user, 0);
     struct writer head = *out;

@@ -32,7 +32,7 @@ static struct bytes full_then_shortest(void) {
     return b;
 }
 
-/* ---- messages, one behind the other */
+/* ---- messages, one after the other */
 
 static void add_number(struct bytes *j, int width, uint64_t x) {
     put_number(j->at + j->length, width, x);

@@ -1,4 +1,4 @@
--- The whole answers of all queries, as conversations: messages after a journal, one after the other, with the answers that the paper gives them.
+-- The whole answers of all queries, as conversations: messages after a journal, one after the other, with the answers worked out for them from docs/FORMAT.md.
 --     answers-computed   each conversation, computed on states
 -- CaseTheorems has them on bytes.
 use Prim.Native.Nat.{ℕ, _+_, _*_}

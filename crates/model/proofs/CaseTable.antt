@@ -1,4 +1,4 @@
--- The lettered cases and further cases as tables of journals and messages, with the number and the answer that the paper gives them, and the
+-- The lettered cases and further cases as tables of journals and messages, with the number and the answer worked out for them from documents 01 and 02, and the
 -- paper's listing. All are computed on states:
 --     lettered-computed, regression-computed   each table as one equation
 --     causes-computed                          which clause refuses a message

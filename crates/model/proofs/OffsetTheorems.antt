@@ -1,4 +1,4 @@
--- The offsets of document 01: where the fields of header and records stand, and the regions of the board.
+-- The offsets of docs/FORMAT.md: where the fields of header and records stand, and the regions of the board.
 use Prim.Native.Nat.{ℕ, _+_}
 use mathlib.Core.Path.{_≡_, refl, ap}
 use mathlib.Core.List.{List, [], _∷_, map}

@@ -1,4 +1,4 @@
--- What stands at the places of a board that encodes a state: first in any table, then in the header and the four tables at the paper's
+-- What stands at the places of a board that encodes a state: first in any table, then in the header and the four tables at their
 -- offsets.
 use Prim.Native.Nat.{ℕ, _+_, _*_, _≤_, _<_}
 use native.Mathlib.Nat.{add-zero}

@@ -2,7 +2,7 @@
 --     step-number, lowest-number, number-applies   the step returns the lowest number that applies, and none otherwise
 --     table-rising    the rows follow the order of the numbers
 --     rights-at-ends  which right the kinds at the ends of each range ask for
---     paper-table     for each number from 6 to 12 the kinds whose rows hold it are those of the paper's table
+--     paper-table     for each number from 6 to 12 the kinds whose rows hold it are those of the table of refusals
 --     frame-number    a frame is never refused with 1, 2 or 3 on a state
 use Prim.Native.Nat.{ℕ, zero, suc, _≤_, _<_, suc-le-suc}
 use native.Mathlib.Nat.{not-suc-le-zero, le-of-suc-le-suc, le-refl, zero-lt-suc}
@@ -416,7 +416,7 @@ frame-number msg s f =
         let number = rank-number cause in
         rw (lt-ltb 3 (causeNumber cause) (omega arith)) refl
 
--- ---- the paper's table
+-- ---- the table of refusals
 
 -- the kinds of a list that have a row with the number, whatever the state and the values of their fields
 unfoldable pub kindsRefused : State → List FieldValue → ℕ → List KindEntry → List ℕ

@@ -1,4 +1,4 @@
--- "The board: 50,448 bytes". A board is cut into a header and the records of four tables at the paper's offsets; a state is laid out as
+-- "The board: 50,448 bytes". A board is cut into a header and the records of four tables at the offsets of docs/FORMAT.md; a state is laid out as
 -- such records.
 use Prim.Native.Nat.{ℕ, _+_, _-_}
 use mathlib.Core.List.{List, [], _∷_, _++_, map, flatten}

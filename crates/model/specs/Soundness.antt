@@ -1,4 +1,4 @@
--- "A board is sound if ..", clause by clause and in the paper's order: those about bytes are tests of the board's records, those about
+-- "A board is sound if ..", clause by clause and in the order of docs/FORMAT.md: those about bytes are tests of the board's records, those about
 -- what the bytes mean are tests of the state, with those of document 02 behind them, and the last is a test of the whole board again.
 use Prim.Native.Nat.{ℕ, _^_}
 use mathlib.Core.List.{List, [], _∷_, _++_, map}

@@ -1,4 +1,4 @@
--- The 28 kinds of message: number, name and fields, in the order of document 01. The names are CoSMed's.
+-- The 28 kinds of message: number, name and fields, in the order of docs/FORMAT.md. The names are CoSMed's.
 use Prim.Native.Nat.{ℕ}
 use mathlib.Core.List.{List, [], _∷_}
 use mathlib.Core.Bool.{Bool, true, false, cond}

@@ -17,7 +17,7 @@ use Rattle.reader.specs.declared.Refusal.the-variants.{Frame, Kind, Body
 use Rattle.reader.specs.declared.Message.{Message}
 use Rattle.reader.specs.declared.Message.the-variants.{StartSys, CNUReq, CUser, CPost, CFriendReq, CFriend, DFriend, UUser, UTitlePost, UTextPost, UImgPost, UVisPost, RUser, RNUReq, RAmIAdmin, RTitlePost, RTextPost, RImgPost, RVisPost, ROwnerPost, RFriendReqToMe, RFriendReqFromMe, LPendingUReqs, LAllUsers, LAllPosts, LFriendReqs, LFriends, LFriendsOf, Refused}
 
--- the paper's number, a kind or a refusal, and the values of the fields in their order
+-- the number, a kind or a refusal, and the values of the fields in their order
 pub record Content : Type 0 where
   pub code : ℕ
   pub values : List FieldValue

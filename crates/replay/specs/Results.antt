@@ -6,7 +6,7 @@ use Rattle.replay.specs.declared.Replayed.{Replayed}
 use Rattle.replay.specs.declared.Stop.{Stop}
 use Rattle.replay.specs.declared.Stop.the-variants.{JournalUsed, BoardUnsound, BufferShort, FrameCut}
 
--- the paper's number of each stop
+-- the number of each stop
 abbrev pub stopNumber : Stop → ℕ
 stopNumber JournalUsed = 0
 stopNumber BoardUnsound = 1

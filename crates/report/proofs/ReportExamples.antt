@@ -1,4 +1,4 @@
--- The listing of the paper, computed, and numbers as characters.
+-- The listing, computed, and numbers as characters.
 use Prim.Native.Nat.{ℕ}
 use mathlib.Core.Path.{_≡_, refl}
 use mathlib.Core.List.{List, [], _∷_, _++_}

@@ -1,4 +1,4 @@
--- The answers of the paper's listing as text, computed, and lines of a buffer.
+-- The answers of the listing as text, computed, and lines of a buffer.
 use Prim.Native.Nat.{ℕ}
 use mathlib.Core.Path.{_≡_, refl}
 use mathlib.Core.List.{List, [], _∷_, _++_}

@@ -27,7 +27,7 @@ const NOT_CARRIED: u16 = 5;
 
 const BUFFER_SHORT: u16 = 13;
 
-// Of the way back, as document 01 numbers them.
+// Of the way back, as docs/FORMAT.md numbers them.
 const BAD_FRAME: u16 = 3;
 
 const UNKNOWN_KIND: u16 = 4;

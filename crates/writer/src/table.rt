@@ -1,4 +1,4 @@
-// The fields of each kind, as document 01 lists them.
+// The fields of each kind, as docs/FORMAT.md lists them.
 ghost use mathlib.Core.Path.{_≡_};
 ghost use mathlib.Core.List.{[], _∷_};
 ghost use Prim.Native.Nat.{_<_};
