@@ -1,15 +1,15 @@
-/* The staff board kernel, for C and C++, on x86-64 Linux. Link libstaff_board.a, which `make install` installs (pkg-config staff_board), or
+/* The staff board kernel, for C99 and later and for C++, on x86-64 Linux. Link libstaff_board.a, which `make install` installs (pkg-config staff_board), or
    target/staticlib/libabi.a, which `rt staticlib abi` writes; they are the same. Messages, answers, boards and the numbers that are returned are those of
    docs/FORMAT.md.
 
    Who owns what: every buffer is the caller's. A call reads and writes the bytes that it is lent, keeps no address after it has returned, and
    allocates nothing.
    Buffers: a buffer is an address and a length in bytes; for values it is a count of them. Any length and any contents are answered. The address is not
-   null, even at length 0, and as many bytes or values as the length says can be read from it on, and written where it is not const. No two buffers of a
-   call overlap.
+   null, even at length 0, and as many bytes or values as the length says can be read from it on, and written where it is not const. No buffer
+   that a call writes overlaps with another of its buffers.
    Threads: the kernel has no state of its own. Calls may run at the same time as long as no buffer that one of them writes is lent to another.
-   Stack: staff_board_replay calls itself for each message and takes 192 bytes of stack for it, 3 MB for 15,000 messages. For threads with a small stack
-   there is staff_board_replay_in_parts, below, which takes less than 1 MB whatever the journal. */
+   Stack: staff_board_replay nests a call for each message, which takes 192 bytes of stack, 3 MB for 15,000 messages. For threads with a small stack there is
+    staff_board_replay_in_parts, below, which takes less than 1 MB whatever the journal. */
 #ifndef STAFF_BOARD_H
 #define STAFF_BOARD_H
 
@@ -26,10 +26,17 @@ enum { STAFF_BOARD_SIZE = 50448, STAFF_BOARD_ANSWER_LIMIT = 518, STAFF_BOARD_COU
 /* The bytes of the largest message, and the most values that a message has. */
 enum { STAFF_BOARD_FRAME_LIMIT = 278, STAFF_BOARD_VALUES_LIMIT = 7 };
 
-/* staff_board_replay: the counts do not have STAFF_BOARD_COUNTS_SIZE bytes. */
-enum { STAFF_BOARD_WRONG_COUNTS = 255 };
+/* Why a replay stopped: the journal is used up; the board does not have its size or is not sound; fewer than STAFF_BOARD_ANSWER_LIMIT answer bytes are
+   left; what is left of the journal does not begin with a whole message; and for counts that do not have STAFF_BOARD_COUNTS_SIZE bytes the last. */
+enum {
+    STAFF_BOARD_JOURNAL_USED = 0,
+    STAFF_BOARD_UNSOUND = 1,
+    STAFF_BOARD_NO_ROOM = 2,
+    STAFF_BOARD_CUT = 3,
+    STAFF_BOARD_WRONG_COUNTS = 255
+};
 
-/* Whether a board is sound: 1 if it is, else 0. All zeros is the empty board, which is. */
+/* Whether a board is sound: 1 if it is, else 0. All zeros, the empty board, is sound. */
 uint32_t staff_board_sound(const uint8_t *board, size_t board_length);
 
 /* One message on a board. Returns the bytes written to the answer buffer times 65,536, plus the number: 0 for accepted, or the refusal, 1 to 12
@@ -37,7 +44,7 @@ uint32_t staff_board_sound(const uint8_t *board, size_t board_length);
    With 1 and 2 nothing is written. A refusal leaves the board as it was. */
 uint32_t staff_board_step(const uint8_t *message, size_t message_length, uint8_t *board, size_t board_length, uint8_t *answer, size_t answer_length);
 
-/* The two parts of what every call but staff_board_sound and staff_board_replay returns: the number, and how many bytes or values were written. */
+/* The two parts of what staff_board_step, staff_board_write and staff_board_read return: the number, and how many bytes or values were written. */
 static inline unsigned staff_board_number(uint32_t result) { return result % 65536; }
 static inline size_t staff_board_written(uint32_t result) { return result / 65536; }
 
@@ -46,11 +53,11 @@ static inline size_t staff_board_written(uint32_t result) { return result / 6553
    are left, 3 the rest of the journal does not begin with a whole message. The counts, STAFF_BOARD_COUNTS_SIZE bytes, become three numbers of eight bytes,
    little-endian: messages done, journal bytes passed, answer bytes written; after a stop with 1 all are 0. For counts of another length it returns
    STAFF_BOARD_WRONG_COUNTS, and does nothing. The board is tested once for a replay, and at each call of staff_board_step: many messages take less
-   time in one replay. */
+   time in one replay. STAFF_BOARD_ANSWER_LIMIT answer bytes for each message are always enough. */
 uint32_t staff_board_replay(const uint8_t *journal, size_t journal_length, uint8_t *board, size_t board_length, uint8_t *answers,
                             size_t answers_length, uint8_t *counts, size_t counts_length);
 
-/* The three counts, from the bytes in which staff_board_replay leaves them. */
+/* The three counts, from the STAFF_BOARD_COUNTS_SIZE bytes in which staff_board_replay leaves them. */
 static inline uint64_t staff_board_count(const uint8_t *counts, size_t index) {
     uint64_t count = 0;
     for (size_t i = 8; i > 0; i--) {
@@ -80,7 +87,7 @@ static inline uint32_t staff_board_replay_in_parts(const uint8_t *journal, size_
         for (size_t i = 0; i < 3; i++) {
             sums[i] += staff_board_count(counts, i);
         }
-    } while (stop == 2 && answers_length - sums[2] >= STAFF_BOARD_ANSWER_LIMIT);
+    } while (stop == STAFF_BOARD_NO_ROOM && answers_length - sums[2] >= STAFF_BOARD_ANSWER_LIMIT);
     for (size_t i = 0; i < STAFF_BOARD_COUNTS_SIZE; i++) {
         counts[i] = (uint8_t)(sums[i / 8] >> i % 8 * 8);
     }
@@ -105,7 +112,7 @@ static inline uint32_t staff_board_replay_in_parts(const uint8_t *journal, size_
    value each, any. Visibility is one value, 0 for friends or 1 for public. A string is two values, the offset where it starts and its length: name 24
    bytes at most, info 56, title 40, text 256, note 24. */
 
-/* Writes the frame of a message to the start of the frame buffer; the offsets of its strings are in the lent bytes. Returns the bytes written times 65,536,
+/* Writes the frame of a message to the start of the frame buffer; the offsets of its strings count from the start of the lent bytes. Returns the bytes written times 65,536,
    plus the number: 0, or
    5   no frame can carry the message: the kind is none of the above, it has another count of values, a value is not within the range of its field, or a
        string is over its limit or not within the lent bytes (an empty one may start where they end);
@@ -115,7 +122,8 @@ uint32_t staff_board_write(uint32_t kind, const uint64_t *values, size_t values_
                            size_t frame_length);
 
 /* The way back: writes the values of a message to the start of the values. The kind is in the message's bytes 2 and 3, low byte first; the offsets of
-   strings are in the body, the message without its first four bytes, so with the body lent staff_board_write makes the same message again. Returns the count of
+   strings count from the start of the body, the message without its first four bytes, so with the body lent staff_board_write makes the same message
+   again. Returns the count of
    values written, 2 to 7, times 65,536, plus the number: 0, or
    3, 4, 5  a bad frame, an unknown kind, a body that does not fit its fields, as staff_board_step refuses them;
    13       there is no room for the values. A message to which 3, 4 or 5 applies is refused with that.

@@ -31,6 +31,11 @@ impl Board {
         &self.bytes
     }
 
+    /// The 50,448 bytes, to be kept elsewhere.
+    pub fn into_bytes(self) -> Vec<u8> {
+        self.bytes
+    }
+
     /// One message: the body of the answer, which lies in `answer`, or the refusal.
     pub fn step<'a>(&mut self, message: &[u8], answer: &'a mut [u8]) -> Result<&'a [u8], Refusal> {
         let done = step(message, &mut self.bytes, answer);
@@ -43,6 +48,19 @@ impl Board {
     /// The messages of a journal, as [`replay`] does them.
     pub fn replay(&mut self, journal: &[u8], answers: &mut [u8]) -> Replayed {
         replay(journal, &mut self.bytes, answers)
+    }
+}
+
+/// A board from bytes that are not copied; they are given back unless they are a sound board.
+impl TryFrom<Vec<u8>> for Board {
+    type Error = Vec<u8>;
+
+    fn try_from(bytes: Vec<u8>) -> Result<Board, Vec<u8>> {
+        if is_sound(&bytes) {
+            Ok(Board { bytes })
+        } else {
+            Err(bytes)
+        }
     }
 }
 
@@ -76,6 +94,13 @@ mod tests {
         assert_eq!(Board::from_bytes(&bytes[1..]), Err(Refusal::Board));
         bytes[BOARD_SIZE - 1] = 1;
         assert_eq!(Board::from_bytes(&bytes), Err(Refusal::Board));
+        assert_eq!(Board::try_from(bytes.clone()), Err(bytes));
+    }
+
+    #[test]
+    fn bytes_are_given_back() {
+        let bytes = vec![0; BOARD_SIZE];
+        assert_eq!(Board::try_from(bytes.clone()).map(Board::into_bytes), Ok(bytes));
     }
 
     #[test]

@@ -1,5 +1,5 @@
-//! The functions of the archive `libabi.a`, as `include/staff_board.h` declares them: a slice is its address and its length. A slice's address is never
-//! null, and `&mut` slices do not overlap with others, which is all that the kernel asks of its caller.
+//! The functions of the archive, as `include/staff_board.h` declares them: a slice is its address and its length. A slice's address is never null, and
+//! `&mut` slices do not overlap with others, which is all that the kernel asks of its caller.
 
 use crate::{Answer, Outcome, Replayed, Stop};
 

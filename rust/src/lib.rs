@@ -1,10 +1,11 @@
 //! The staff board kernel, from Rust.
 //!
-//! The kernel is proved; this crate only hands it slices. [`step`] and [`replay`] take slices of any length and contents and answer as
-//! `docs/FORMAT.md` says. [`Message`] is a message by its fields, [`messages`] and [`answers`] go over the frames of a journal and of its answers, and
+//! The kernel is proved. What this crate adds is tested: it hands the kernel slices, replays in parts, and cuts journals and answers into frames.
+//! [`step`] and [`replay`] take slices of any length and contents and answer as `docs/FORMAT.md` says. [`Message`] is a message by its fields, [`messages`] and [`answers`] go over the frames of a journal and of its answers, and
 //! [`Board`] keeps a board that is sound. Nothing is shared between threads: each call works on the slices that it is lent and on nothing else.
 //!
-//! The crate does without the standard library. The feature `alloc`, which is on by default, adds what allocates: [`Board`] and [`Message::to_vec`].
+//! The crate does without the standard library. The feature `alloc`, which is on by default, adds what allocates: [`Board`] and [`Message::to_vec`]. The
+//! examples of these pages need it.
 //!
 //! ```
 //! use staff_board::{Board, Message, Refusal, ANSWER_LIMIT};
@@ -51,6 +52,7 @@ pub const ANSWER_LIMIT: usize = 518;
 
 /// What a step returned: its number, 0 for accepted, and how many bytes of the answer buffer it wrote.
 #[derive(Clone, Copy, Debug, PartialEq, Eq)]
+#[must_use]
 pub struct Answer {
     /// 0 for accepted, or the number of the refusal.
     pub number: u16,
@@ -65,7 +67,8 @@ impl Answer {
     }
 }
 
-/// One message on a board. The answer's frame stands first in `answer`, and bytes after it keep their contents. A refusal leaves the board as it was.
+/// One message on a board. The answer is a frame, `answer[..written]`, and bytes after it keep their contents; with 1 and 2 nothing is written. A refusal
+/// leaves the board as it was.
 pub fn step(message: &[u8], board: &mut [u8], answer: &mut [u8]) -> Answer {
     kernel::step(message, board, answer)
 }

@@ -252,6 +252,7 @@ impl<'a> Field<'a> for &'a [u8] {
 
 /// What [`write()`] or [`read()`] returned.
 #[derive(Clone, Copy, Debug, PartialEq, Eq)]
+#[must_use]
 pub struct Outcome {
     /// 0 for done, or the number of the refusal.
     pub number: u16,
@@ -270,8 +271,8 @@ pub fn write(kind: u32, values: &[u64], lent: &[u8], frame: &mut [u8]) -> Outcom
     kernel::write(kind, values, lent, frame)
 }
 
-/// The way back: the values of a message, in field order, of which strings are places in the body, the message without its four head bytes. They stand
-/// first in `values`, and values after them stay. The kind is in the message's bytes 2 and 3.
+/// The way back: the values of a message in field order. A number is one value, a string two, its offset in the body (the message without its first four
+/// bytes) and its length. They stand first in `values`, and values after them stay. The kind is in the message's bytes 2 and 3.
 ///
 /// Refused, with nothing written: 3, 4 and 5 as in a step; else 13 for a slice of fewer values than the message has.
 ///
@@ -288,7 +289,7 @@ pub enum WriteRefusal {
     NotCarried,
     /// 13: the buffer is shorter than the frame.
     BufferShort,
-    /// A number that this crate has no name for: the archive is newer than the crate.
+    /// A number that the writer of this crate's time does not give: the archive is newer than the crate.
     Unknown(u16),
 }
 

@@ -30,7 +30,7 @@ pub enum Refusal {
     Already,
     /// 12: the table is full.
     Full,
-    /// A number that this crate has no name for: the archive is newer than the crate.
+    /// A number that is none of a step's: of an archive newer than this crate, or of another call, as 13 of [`read`](crate::read()).
     Unknown(u16),
 }
 

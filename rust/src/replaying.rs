@@ -15,7 +15,7 @@ pub enum Stop {
     BufferShort,
     /// 3: what is left of the journal does not begin with a whole message.
     FrameCut,
-    /// A number that this crate has no name for: the archive is newer than the crate.
+    /// A number that a replay of this crate's time does not give: the archive is newer than the crate.
     Unknown(u32),
 }
 
@@ -57,6 +57,7 @@ impl fmt::Display for Stop {
 
 /// Why a replay stopped, and what it did until then.
 #[derive(Clone, Copy, Debug, PartialEq, Eq)]
+#[must_use]
 pub struct Replayed {
     /// Why it stopped.
     pub stop: Stop,
@@ -72,8 +73,8 @@ pub struct Replayed {
 /// four bytes at least, so there are never more than 4,096 of them.
 const PART: usize = 16_384;
 
-/// The messages of a journal on a board, with their answers one after the other in `answers`; bytes after them keep their contents. Journals of any
-/// length can be replayed: after a stop for want of room the kernel goes on at that place with the next part of the buffer. Of one such resumption it is
+/// The messages of a journal on a board, with their answers one after the other in `answers`; bytes after them keep their contents. It stops with
+/// [`Stop::BufferShort`] where fewer than 518 bytes are left; [`ANSWER_LIMIT`] bytes for each message are always enough. Journals of any length can be replayed: after a stop for want of room the kernel goes on at that place with the next part of the buffer. Of one such resumption it is
 /// proved that both replays together show the whole run (`replay-resumed`, `resumed-complete` in `crates/model/proofs/ReplayTheorems.antt`); that
 /// this loop does so is tested.
 pub fn replay(journal: &[u8], board: &mut [u8], answers: &mut [u8]) -> Replayed {

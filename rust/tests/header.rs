@@ -1,4 +1,4 @@
-//! The header `include/staff_board.h`: its constants are those of the crate, its list of fields is that of the reference and names them as the crate does,
+//! The header `include/staff_board.h`: its constants that the crate has too are the same there, its list of fields is that of the reference and names them as the crate does,
 //! the example in C, which makes all calls, is compiled with all warnings, linked with the archive and run, and so is a replay in
 //! parts on a small stack; that one is compiled as C++ too.
 #![cfg(feature = "alloc")] // for Message::to_vec
@@ -8,6 +8,7 @@ mod reference;
 
 use generate::{carried, message, Parts, Random};
 use reference::{fields, Field, KINDS};
+use staff_board::Stop;
 use std::path::{Path, PathBuf};
 use std::process::Command;
 
@@ -34,6 +35,10 @@ fn constants_are_those_of_the_crate() {
         ("STAFF_BOARD_ANSWER_LIMIT", staff_board::ANSWER_LIMIT),
         ("STAFF_BOARD_FRAME_LIMIT", staff_board::FRAME_LIMIT),
         ("STAFF_BOARD_VALUES_LIMIT", staff_board::VALUES_LIMIT),
+        ("STAFF_BOARD_JOURNAL_USED", Stop::JournalUsed.number() as usize),
+        ("STAFF_BOARD_UNSOUND", Stop::BoardUnsound.number() as usize),
+        ("STAFF_BOARD_NO_ROOM", Stop::BufferShort.number() as usize),
+        ("STAFF_BOARD_CUT", Stop::FrameCut.number() as usize),
     ] {
         assert_eq!(constant(&header, name), expected, "{name}");
     }
@@ -122,7 +127,15 @@ fn values_stand_in_the_order_of_the_list() {
 /// Runs a compiler with these words, all warnings on.
 fn compile(compiler: &str, words: &[&str]) {
     let compiled = Command::new(compiler)
-        .args(["-Wall", "-Wextra", "-pedantic", "-Werror", "-pthread", "-Iinclude"])
+        .args([
+            "-Wall",
+            "-Wextra",
+            "-Wconversion",
+            "-pedantic",
+            "-Werror",
+            "-pthread",
+            "-Iinclude",
+        ])
         .args(words)
         .current_dir(top())
         .status()

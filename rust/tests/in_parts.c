@@ -35,7 +35,7 @@ static int agree(int byte) {
         pthread_create(&thread, &attributes, replay_in_parts, NULL) != 0 || pthread_join(thread, NULL) != 0) {
         return 0;
     }
-    return stop == parts_stop && (stop == 1) == (byte != 0) && memcmp(whole_counts, parts_counts, sizeof whole_counts) == 0 &&
+    return stop == parts_stop && (stop == STAFF_BOARD_UNSOUND) == (byte != 0) && memcmp(whole_counts, parts_counts, sizeof whole_counts) == 0 &&
            memcmp(whole_board, parts_board, sizeof whole_board) == 0 && memcmp(whole, parts, sizeof whole) == 0;
 }
 
