@@ -1,4 +1,5 @@
--- The whole answers of all queries, as conversations: messages after a journal, one after the other, with the answers worked out for them from docs/FORMAT.md.
+-- The whole answers of all queries, as conversations: messages after a journal, one after the other, with the answers worked out for them
+-- from documents 01 and 02.
 --     answers-computed   each conversation, computed on states
 -- CaseTheorems has them on bytes.
 use Prim.Native.Nat.{ℕ, _+_, _*_}

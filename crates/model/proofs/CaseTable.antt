@@ -1,5 +1,5 @@
--- The lettered cases and further cases as tables of journals and messages, with the number and the answer worked out for them from documents 01 and 02, and the
--- paper's listing. All are computed on states:
+-- The lettered cases and further cases as tables of journals and messages, with the number and the answer worked out for them from documents
+-- 01 and 02, and document 01's listing. All are computed on states:
 --     lettered-computed, regression-computed   each table as one equation
 --     causes-computed                          which clause refuses a message
 --     posts-computed                           64 posts make an answer of 518 bytes

@@ -1,4 +1,4 @@
--- Worked examples, computed on the definitions. The frames are worked out by hand from docs/FORMAT.md: L, kind, and the fields in their order.
+-- Worked examples, computed on the definitions. The frames are worked out by hand from document 01: L, kind, and the fields in their order.
 use Prim.Native.Nat.{ℕ, _+_, _-_, _^_}
 use mathlib.Core.Path.{_≡_, refl}
 use mathlib.Core.List.{List, [], _∷_, _++_, map}
