@@ -1,4 +1,6 @@
 // The kernel for programs in C and Rust (include/staff_board.h): numbers and byte slices only.
+#![tactic(auto)]
+
 ghost use Rattle.std.specs.Prelude.{◌≡◌, cond, ◌+◌, ◌*◌, ◌<◌};
 ghost use Rattle.reader.specs.Messages.{message_content};
 ghost use Rattle.model.specs.Soundness.{is_sound};

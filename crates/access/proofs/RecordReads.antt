@@ -8,7 +8,7 @@ use lib.ListN.{length, get_or, length-map, get_or-eq_default}
 use lib.Dec.{eqb, ltb}
 use borrow.Table.Steps.{cases}
 use borrow.Author.Tests.{ltb-true, ltb-false}
-use Rattle.bytes.specs.Bytes.{index_of}
+use Rattle.layout.specs.Search.{index_of}
 use Rattle.layout.specs.Bits.{has_bit}
 use Rattle.layout.specs.Tables.{record_numbers}
 use Rattle.layout.proofs.TableLaws.{record-within}

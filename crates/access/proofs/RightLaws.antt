@@ -7,7 +7,7 @@ use mathlib.Core.Bool.{Bool, true, false, cond, ◌&&◌, ◌||◌}
 use lib.Dec.{eqb, leb}
 use borrow.Table.Steps.{cases}
 use borrow.Author.Tests.{leb-true, le-leb, ne_eqb, eqb-true}
-use Rattle.bytes.specs.Bytes.{index_of, index_after}
+use Rattle.layout.specs.Search.{index_of, index_after}
 use Rattle.layout.proofs.BooleanLaws.{and_left, and_right, and_both, refuted}
 use Rattle.model.specs.Lists.{contains}
 use Rattle.model.specs.State.{State}

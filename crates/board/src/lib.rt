@@ -1,4 +1,6 @@
 // The soundness test of a board, by the clauses of "A board is sound if ..".
+#![tactic(auto)]
+
 mod friends;
 mod header;
 mod notes;

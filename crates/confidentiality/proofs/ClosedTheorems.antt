@@ -8,7 +8,7 @@ use mathlib.Core.Option.{some, none}
 use lib.ListN.{length, get_or, length-map, get_or-map}
 use lib.Dec.{eqb}
 use borrow.Table.Steps.{cases}
-use Rattle.bytes.specs.Bytes.{index_of}
+use Rattle.layout.specs.Search.{index_of}
 use Rattle.layout.specs.Bits.{has_bit}
 use Rattle.layout.proofs.BooleanLaws.{and_both}
 use Rattle.model.specs.Lists.{for_all, contains}

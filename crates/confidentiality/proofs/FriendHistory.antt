@@ -11,7 +11,7 @@ use mathlib.Core.Option.{none}
 use lib.ListN.{length, get_or, length-set, length-map, get_or-eq_default}
 use lib.Dec.{eqb, leb}
 use borrow.Author.Tests.{eqb-true, eq-eqb, not-false}
-use Rattle.bytes.specs.Bytes.{index_of}
+use Rattle.layout.specs.Search.{index_of}
 use Rattle.layout.specs.Bits.{bit_at, has_bit, set_bit, clear_bit}
 use Rattle.layout.proofs.BooleanLaws.{and_left, and_right, and_both, or_neither}
 use Rattle.layout.proofs.BitLaws.{has_beyond}

@@ -9,7 +9,7 @@ use mathlib.Core.Option.{Option, some, none, some-injective, none-ne-some}
 use lib.ListN.{length, get_or, set}
 use lib.Dec.{eqb}
 use borrow.Author.Tests.{ltb-true, eqb-true, eqb-false}
-use Rattle.bytes.specs.Bytes.{index_of, index_after}
+use Rattle.layout.specs.Search.{index_of, index_after}
 use Rattle.model.specs.Lists.{for_all, contains}
 use Rattle.model.proofs.ListLaws.{all_at, contains_cons, absent_cons}
 

@@ -10,7 +10,7 @@ use lib.ListN.{length, get_or, set, length-map, get_or-map, get_or-append}
 use lib.Seq.{map-set_same}
 use lib.Dec.{eqb, ltb, leb}
 use borrow.Author.Tests.{ltb-true, eqb-true, not-false}
-use Rattle.bytes.specs.Bytes.{index_of, index_after}
+use Rattle.layout.specs.Search.{index_of, index_after}
 use Rattle.layout.specs.Bits.{set_bit, clear_bit}
 use Rattle.layout.proofs.BooleanLaws.{and_left, or_neither, apply_cond}
 use Rattle.reader.specs.Fields.{FieldValue}

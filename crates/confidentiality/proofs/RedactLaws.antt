@@ -13,7 +13,7 @@ use lib.ListN.{length, get_or, set, length-map, length-set, get_or-eq_default}
 use lib.Seq.{map-set_same, set_out, set-get_or, get_or-set_same, get_or-set_other}
 use borrow.Table.Steps.{cases}
 use borrow.Author.Tests.{ltb-false, eqb-false, not-false}
-use Rattle.bytes.specs.Bytes.{index_of}
+use Rattle.layout.specs.Search.{index_of}
 use Rattle.layout.specs.Bits.{has_bit}
 use Rattle.layout.specs.Numbers.{to_le_bytes}
 use Rattle.layout.specs.StringFields.{string_bytes}

@@ -13,7 +13,7 @@ use borrow.Author.Tests.{eqb-true, not-false}
 use borrow.Table.Steps.{cases}
 use Rattle.layout.proofs.BooleanLaws.{and_left, and_right}
 use Rattle.reader.specs.Messages.{Content, message_content}
-use Rattle.bytes.specs.Bytes.{index_of}
+use Rattle.layout.specs.Search.{index_of}
 use Rattle.model.specs.Lists.{contains}
 use Rattle.model.specs.State.{State, empty_state}
 use Rattle.model.specs.Lookups.{is_registered, is_post, is_owner, may_read}

@@ -8,7 +8,7 @@ use mathlib.Core.Bool.{Bool, true, false, false≢true, not, cond}
 use mathlib.Core.Option.{some, none, some-injective, none-ne-some}
 use lib.Dec.{eqb}
 use borrow.Author.Tests.{eqb-true, eq-eqb}
-use Rattle.bytes.specs.Bytes.{index_of}
+use Rattle.layout.specs.Search.{index_of}
 use Rattle.layout.proofs.BooleanLaws.{and_left, and_both, cond_same}
 use Rattle.reader.specs.Messages.{Content, message_content}
 use Rattle.model.specs.Lists.{for_all, contains}

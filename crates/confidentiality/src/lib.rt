@@ -1,1 +1,2 @@
 // Confidentiality has no code: its definitions and statements stand in specs/, their laws and theorems in proofs/.
+#![tactic(auto)]

@@ -5,7 +5,7 @@ use mathlib.Core.Path.{◌≡◌, refl, sym, ap, ◌∙◌}
 use mathlib.Core.List.{List, [], ◌∷◌, ◌++◌, map, flatten, sum, append-nil, map-append}
 use mathlib.Core.Bool.{Bool, true, false}
 use lib.ListN.{length, get_or, set, replicate}
-use Rattle.bytes.specs.Bytes.{index_of, index_after}
+use Rattle.layout.specs.Search.{index_of, index_after}
 use Rattle.layout.specs.Bytes.{bytes_at, patch, offset, all_zero}
 use Rattle.layout.specs.Bits.{bit_at, has_bit}
 use Rattle.layout.specs.Numbers.{to_le_bytes, from_le_bytes}

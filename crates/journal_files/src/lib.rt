@@ -1,4 +1,6 @@
 // The journals that a program's arguments name: for each its name, then its lines or those of its answers.
+#![tactic(auto)]
+
 use board::BOARD_SIZE;
 use journal_io::{JOURNAL_SIZE, Reading, print_journal, print_text, read_journal};
 use libc::STDOUT_FILENO;

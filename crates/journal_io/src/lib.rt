@@ -1,4 +1,6 @@
 // A journal read from a file descriptor, and its lines on standard output.
+#![tactic(auto)]
+
 ghost use Rattle.std.specs.Prelude.{◌≡◌, ◌≤◌, length};
 ghost use Rattle.report.specs.Results.{written_size, report_result};
 ghost use Rattle.journal_io.specs.Results.{size_read, text_after};

@@ -43,11 +43,11 @@ and_where true b c f = f refl
 and_where false b c f = refl
 
 -- a call r of a test c, whose negation was taken or left
-pub test_fails : {r c : Bool} → r ≡ c → not r ≡ true → c ≡ false
-test_fails {r} e t = sym e ∙ not-true r t
+pub test_fails : {r c : Bool} → r ≡ c → r ≡ false → c ≡ false
+test_fails e t = sym e ∙ t
 
-pub test_holds : {r c : Bool} → r ≡ c → not r ≡ false → c ≡ true
-test_holds {r} e t = sym e ∙ not-false r t
+pub test_holds : {r c : Bool} → r ≡ c → r ≡ true → c ≡ true
+test_holds e t = sym e ∙ t
 
 -- a chain that ends at a test that fails, and one that goes on behind a test that holds
 pub chain_stops : (a b : Bool) → a ≡ false → false ≡ (a && b)
@@ -57,10 +57,10 @@ pub chain_goes_on : (a b : Bool) {r : Bool} → a ≡ true → r ≡ b → r ≡
 chain_goes_on a b e q = q ∙ sym (ap (λ (t : Bool). t && b) e)
 
 -- both at once: a chain at a call r of its first test
-pub call_stops : (b : Bool) {r a : Bool} → r ≡ a → not r ≡ true → false ≡ (a && b)
+pub call_stops : (b : Bool) {r a : Bool} → r ≡ a → r ≡ false → false ≡ (a && b)
 call_stops b {a = a} e t = chain_stops a b (test_fails e t)
 
-pub call_goes_on : (b : Bool) {r a q : Bool} → r ≡ a → not r ≡ false → q ≡ b → q ≡ (a && b)
+pub call_goes_on : (b : Bool) {r a q : Bool} → r ≡ a → r ≡ true → q ≡ b → q ≡ (a && b)
 call_goes_on b {a = a} e t = chain_goes_on a b (test_holds e t)
 
 -- ---- choices

@@ -41,7 +41,7 @@ module _ (b : List ℕ) (at : ℕ) (x : List ℕ) {n : ℕ} (l : length x ≡ n)
   write_beyond h = ap (λ (t : Bool). cond t (patch b at x) b) (lt-leb (at + length x) (length b) (omega arith))
 
   -- where the test of the range refused
-  pub write-refused : {r : Bool} → r ≡ leb (at + n) (length b) → not r ≡ true → b ≡ write_at b at x
+  pub write-refused : {r : Bool} → r ≡ leb (at + n) (length b) → r ≡ false → b ≡ write_at b at x
   write-refused e t = sym (write_beyond (range_fails at n (length b) e t))
 
 pub length-write : (b : List ℕ) (at : ℕ) (x : List ℕ) → length (write_at b at x) ≡ length b

@@ -9,7 +9,6 @@ use lib.Seq.{length-take-le, take-length, drop-length, drop-drop, get_or-append-
 use lib.Dec.{eqb}
 use lib.Bits.{bit_or, or_add_and, and_le_l, and_le_r}
 use borrow.Author.Tests.{eq-eqb, ne_eqb}
-use borrow.Author.Rules.{part_to_end}
 use borrow.Rule.Slice.PartMut.{put_mid, Post-is}
 use Rattle.layout.specs.Bytes.{bytes_at, patch, write_at, all_zero}
 use Rattle.layout.proofs.ByteLaws.{length-bytes_at, bytes_at_none, bytes_at_end, bytes_at_cons, bytes_at_join, patch_snoc, write-within, zero_join}
@@ -104,15 +103,8 @@ move_more b to from n h f =
 
 -- ---- a copy into the rest of a slice
 
-pub copied : (b : List ℕ) (at : ℕ) (s : List ℕ) {y : List ℕ} → at + length s ≤ length b
-    → y ≡ take (length s) s ++ drop (length s) (take (length b - at) (drop at b)) → put_mid at (length b - at) b y ≡ write_at b at s
+pub copied : (b : List ℕ) (at : ℕ) (s : List ℕ) {y : List ℕ} → at + length s ≤ length b → y ≡ s
+    → put_mid at (at + length s - at) b y ≡ write_at b at s
 unfolding patch
-copied b at s {y} h e =
-    let f : y ≡ s ++ drop (at + length s) b =
-    e ∙ ap₂ (λ (p q : List ℕ). p ++ drop (length s) q) (take-length s) (part_to_end b at)
-    ∙ ap (λ (q : List ℕ). s ++ q) (drop-drop (length s) at b)
-    in
-    let t : drop (length b - at) (drop at b) ≡ [] = Post-is at (length b) b (omega arith) ∙ drop-length b in
-    ap₂ (λ (p q : List ℕ). take at b ++ (p ++ q)) f t
-    ∙ ap (λ (q : List ℕ). take at b ++ q) (append-nil (s ++ drop (at + length s) b))
-    ∙ sym (write-within b at s refl h)
+copied b at s h e =
+    ap₂ (λ (p q : List ℕ). take at b ++ (p ++ q)) e (Post-is at (at + length s) b (omega arith)) ∙ sym (write-within b at s refl h)

@@ -10,7 +10,7 @@ use lib.ListN.{length, take, drop, get_or, replicate, length-append, length-map,
 use lib.Seq.{take_at, drop_at, length-take-le, get_or-take, ext_get_or}
 use lib.Dec.{eqb, leb, ltb}
 use borrow.Author.Tests.{eq-eqb, ne_eqb, eqb-true, eqb-false, lt-ltb, le-ltb, ltb-true, le-leb, lt-leb, leb-true}
-use Rattle.bytes.specs.Bytes.{index_of, index_after}
+use Rattle.layout.specs.Search.{index_of, index_after}
 use Rattle.layout.specs.Bytes.{bytes_at, patch, write_at}
 use Rattle.layout.specs.Numbers.{from_le_bytes}
 use Rattle.layout.specs.Tables.{record_number, record_numbers, without_record, remove_record}

@@ -3,3 +3,4 @@ pub mod Numbers
 pub mod StringFields
 pub mod Tables
 pub mod Bits
+pub mod Search

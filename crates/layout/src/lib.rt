@@ -1,4 +1,6 @@
 // Numbers, runs, string fields, records and bit rows at places of a lent byte slice.
+#![tactic(auto)]
+
 pub mod bits;
 pub mod number;
 pub mod range;

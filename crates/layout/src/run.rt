@@ -11,7 +11,7 @@ pub fn write_bytes(b: &mut [u8], at: usize, s: &[u8])
     if !within(b.len(), at, s.len()) {
         return;
     }
-    bytes::copy(s, &mut b[at..]);
+    b[at..at + s.len()].copy_from_slice(s);
 }
 
 // n bytes from a place on become zero; where they would reach past the end, nothing changes.

@@ -1,6 +1,6 @@
 // Tables: records of one size, one behind the other, each with its number in its first four bytes.
 ghost use Rattle.std.specs.Prelude.{◌≡◌, ◌+◌, ◌*◌, ◌≤◌, length, leb};
-ghost use Rattle.bytes.specs.Bytes.{index_of};
+ghost use Rattle.layout.specs.Search.{index_of};
 ghost use Rattle.layout.specs.Bytes.{bytes_at, patch};
 ghost use Rattle.layout.specs.Tables.{record_numbers, remove_record};
 

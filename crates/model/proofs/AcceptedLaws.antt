@@ -8,7 +8,7 @@ use mathlib.Core.Option.{some, none, some-ne-none}
 use lib.ListN.{length, get_or, length-map, get_or-map}
 use lib.Dec.{eqb}
 use borrow.Author.Tests.{ltb-true, eqb-true, eqb-false, eq-eqb, ne_eqb}
-use Rattle.bytes.specs.Bytes.{index_of}
+use Rattle.layout.specs.Search.{index_of}
 use Rattle.model.specs.Lists.{contains}
 use Rattle.model.specs.State.{User, Post, Pending, State, no_user, user_numbers, post_numbers, pending_numbers, user_at}
 use Rattle.model.specs.Lookups.{is_registered, is_post, is_pending, user_slot, post_place, pending_place, user_numbered}

@@ -11,7 +11,7 @@ use mathlib.Core.Bool.{Bool, true, false, not, cond, ◌||◌}
 use mathlib.Core.Option.{Option, some, none}
 use lib.Dec.{eqb}
 use borrow.Author.Tests.{eq-eqb}
-use Rattle.bytes.specs.Bytes.{index_of}
+use Rattle.layout.specs.Search.{index_of}
 use lib.ListN.{length, take, replicate, length-replicate}
 use Rattle.reader.specs.Frames.{kind_of, body_of}
 use Rattle.model.specs.State.{State, empty_state}

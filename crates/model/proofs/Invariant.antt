@@ -14,7 +14,7 @@ use lib.Dec.{eqb, leb, ltb, lit<}
 use lib.Pow.{pow_pos, pow_mono}
 use borrow.Author.Tests.{ltb-true, ltb-false, lt-ltb, leb-true, leb-false, le-leb, eqb-true, eqb-false, not-true, not-false}
 use borrow.Table.Steps.{cases}
-use Rattle.bytes.specs.Bytes.{index_of, index_after}
+use Rattle.layout.specs.Search.{index_of, index_after}
 use Rattle.layout.specs.Bits.{bit_at, has_bit}
 use Rattle.layout.specs.StringFields.{is_string}
 use Rattle.layout.proofs.BooleanLaws.{and_both}

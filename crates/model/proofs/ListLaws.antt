@@ -12,7 +12,7 @@ use lib.Seq.{map-set_same, get_or-append_seam}
 use lib.Dec.{eqb, ltb, leb-zero, leb-suc-suc, eqb-suc-zero}
 use borrow.Table.Steps.{cases}
 use borrow.Author.Tests.{ltb-true, ltb-false, eqb-true, eqb-false, ne_eqb, not-true, eq-eqb}
-use Rattle.bytes.specs.Bytes.{index_of, index_after}
+use Rattle.layout.specs.Search.{index_of, index_after}
 use Rattle.layout.proofs.BooleanLaws.{and_left, and_right, and_both, and_exchange, or_neither, refuted}
 use Rattle.layout.proofs.TableLaws.{map-take, index_found, index_le}
 use Rattle.model.specs.Lists.{for_all, all_true, all_below, contains, distinct, remove_at}

@@ -14,7 +14,7 @@ use mathlib.Core.Option.{Option, some, none, none-ne-some}
 use lib.ListN.{length, get_or}
 use lib.Dec.{eqb, leb, ltb, lit≤}
 use borrow.Author.Tests.{leb-true, le-leb, lt-ltb}
-use Rattle.bytes.specs.Bytes.{index_of}
+use Rattle.layout.specs.Search.{index_of}
 use Rattle.layout.proofs.BooleanLaws.{and_left, and_right, and_both}
 use Rattle.reader.specs.Frames.{is_frame, kind_of, body_of}
 use Rattle.reader.specs.Fields.{FieldType, FieldValue, fields_fit, field_values}

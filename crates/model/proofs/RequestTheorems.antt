@@ -13,7 +13,7 @@ use mathlib.Core.Option.{Option, some, none}
 use lib.ListN.{length, length-set}
 use lib.Dec.{eqb}
 use borrow.Author.Tests.{eqb-false, eq-eqb, not-true, not-false}
-use Rattle.bytes.specs.Bytes.{index_of}
+use Rattle.layout.specs.Search.{index_of}
 use Rattle.layout.specs.Bits.{has_bit, set_bit}
 use Rattle.layout.proofs.BooleanLaws.{and_left, and_right, and_both, cond_same, refuted}
 use Rattle.layout.proofs.BitLaws.{has_below}

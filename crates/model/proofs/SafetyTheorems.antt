@@ -14,7 +14,7 @@ use lib.ListN.{length, get_or, length-map, get_or-map}
 use lib.Dec.{eqb, ltb}
 use borrow.Table.Steps.{cases}
 use borrow.Author.Tests.{ltb-true, ltb-false}
-use Rattle.bytes.specs.Bytes.{index_of}
+use Rattle.layout.specs.Search.{index_of}
 use Rattle.layout.specs.Bits.{has_bit, set_places}
 use Rattle.layout.proofs.BooleanLaws.{apply_cond}
 use Rattle.layout.proofs.BitLaws.{has_beyond, has_below}

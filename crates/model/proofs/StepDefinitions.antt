@@ -1,6 +1,6 @@
 -- `unfolding step_definitions` unfolds the definitions of the step and the run, for cases that are computed on states.
 use mathlib.Core.List.{flatten}
-use Rattle.bytes.specs.Bytes.{index_of}
+use Rattle.layout.specs.Search.{index_of}
 use Rattle.layout.specs.Bytes.{bytes_at}
 use Rattle.layout.specs.Numbers.{to_le_bytes, from_le_bytes}
 use Rattle.layout.specs.StringFields.{is_string, string_bytes}

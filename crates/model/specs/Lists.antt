@@ -1,6 +1,6 @@
 -- Tests over lists, in the form in which the rules of a board are written down.
 use Rattle.std.specs.Prelude.{ℕ, zero, suc, List, [], ◌∷◌, ◌++◌, Bool, true, not, ◌&&◌, length, take, drop, ltb}
-use Rattle.bytes.specs.Bytes.{index_of}
+use Rattle.layout.specs.Search.{index_of}
 
 -- every element of a list passes; the library's `all` cannot be unfolded, so nothing could be computed with it
 unfoldable pub for_all : {A : Type 0} → (A → Bool) → List A → Bool

@@ -1,6 +1,6 @@
 -- What a state says of a staff number and of a post number.
 use Rattle.std.specs.Prelude.{ℕ, List, Bool, ◌||◌, eqb}
-use Rattle.bytes.specs.Bytes.{index_of}
+use Rattle.layout.specs.Search.{index_of}
 use Rattle.layout.specs.Bits.{has_bit}
 use Rattle.model.specs.Lists.{contains}
 use Rattle.model.specs.State.{User, Post, State, user_numbers, post_numbers, pending_numbers, user_at, post_at, note_at}

@@ -1,4 +1,6 @@
 // Actions that answer from the board, a function each: 0501 to 0606.
+#![tactic(auto)]
+
 mod answers;
 pub mod listings;
 pub mod readings;

@@ -1,4 +1,6 @@
 // Reads one message: its frame, its body uncopied, and the message as one of its cases.
+#![tactic(auto)]
+
 mod bodies;
 mod family;
 pub mod field;

@@ -1,4 +1,6 @@
 // The replay: a journal on a board.
+#![tactic(auto)]
+
 ghost use Rattle.std.specs.Prelude.{◌≡◌, true};
 ghost use Rattle.model.specs.Soundness.{is_sound};
 ghost use Rattle.model.specs.Replay.{replay_of};

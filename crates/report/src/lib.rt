@@ -1,4 +1,6 @@
 // The text that the program prints for a journal.
+#![tactic(auto)]
+
 pub mod line;
 mod message_lines;
 

@@ -1,4 +1,6 @@
 // The program: the lines for the journal on standard input.
+#![tactic(auto)]
+
 use journal_io::{JOURNAL_SIZE, print_journal};
 use libc::STDIN_FILENO;
 use report::REPORT_LIMIT;

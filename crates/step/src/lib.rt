@@ -1,4 +1,6 @@
 // The step: one message on a board.
+#![tactic(auto)]
+
 ghost use Rattle.std.specs.Prelude.{◌≡◌, true, ◌+◌, ◌≤◌, length};
 ghost use Rattle.layout.specs.Bytes.{bytes_at};
 ghost use Rattle.reader.specs.Messages.{refusal_number};

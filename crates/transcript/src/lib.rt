@@ -1,4 +1,6 @@
 // The answers of a replay as text: a line of lowercase hexadecimal digits for each.
+#![tactic(auto)]
+
 ghost use Rattle.std.specs.Prelude.{◌≡◌, ◌+◌, ◌*◌, ◌≤◌, length};
 ghost use Rattle.layout.specs.Bytes.{write_at, bytes_written, put_bytes};
 ghost use Rattle.report.specs.Results.{reported};

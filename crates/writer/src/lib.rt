@@ -1,4 +1,6 @@
 // Writes messages: the frame that the reader takes a message from. And the way back: the values of a message that is read.
+#![tactic(auto)]
+
 mod body;
 mod frame;
 mod message;

@@ -5,7 +5,7 @@ use mathlib.Core.Path.{◌≡◌, refl, sym, ap}
 use mathlib.Core.Logic.{◌⊎◌, inl, inr}
 use mathlib.Core.Bool.{Bool, cond, ◌&&◌}
 use lib.Dec.{leb}
-use Rattle.bytes.specs.Bytes.{index_of, index_after}
+use Rattle.layout.specs.Search.{index_of, index_after}
 use Rattle.model.specs.Lists.{contains}
 use Rattle.model.specs.Refusals.{right_of, owner_right, reader_right, no_right}
 use Rattle.access.proofs.RightLaws.{within, outside, by_ranges}

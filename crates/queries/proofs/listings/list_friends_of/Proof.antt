@@ -3,7 +3,7 @@ use native.Mathlib.Omega.{arith}
 use mathlib.Core.Path.{◌≡◌, refl, ap}
 use lib.Dec.{lit≤}
 use borrow.Author.Rules.{rules}
-use Rattle.bytes.specs.Bytes.{index_of, index_after}
+use Rattle.layout.specs.Search.{index_of, index_after}
 use Rattle.model.specs.Lists.{contains}
 use Rattle.model.specs.Board.{decode}
 use Rattle.model.specs.Actions.{l_friends_of}

@@ -4,11 +4,7 @@ use lib.Count.{ones}
 use native.Mathlib.Nat.{mod-eq_of_lt}
 use native.Mathlib.Omega.{arith}
 use mathlib.Core.Path.{sym, ap, ◌∙◌}
-use Rattle.layout.proofs.bits.count_bits.Statement.{statement}
-use Rattle.layout.proofs.bits.count_bits.Tie as tie
+use Rattle.layout.proofs.bits.count_bits.Goals as goal
 
-returns : tie.Need-returns
+pub returns : goal.returns
 returns c = sym (length_places c.args.row 32 ∙ ap ones (mod-eq_of_lt {n = c.args.row} {m = 4294967296} (omega arith)))
-
-pub count-bits-spec : {M : Type 1} → statement M
-count-bits-spec = tie.close (tie.spec returns)
