@@ -104,17 +104,17 @@ module _ (fs : List FieldType) (s : List ℕ) where
       ∙ sym (and_assoc (field_fits staff_number s 0 && field_fits password s 4) (field_fits staff_number s 12) (fields_fit fs s 16))
 
   -- a test of how the body begins: where it fails the body does not fit, and where it holds the rest decides
-  pub login_stops : {r : Bool} → r ≡ begins_login s → not r ≡ true → false ≡ fields_fit (staff_number ∷ password ∷ fs) s 0
+  pub login_stops : {r : Bool} → r ≡ begins_login s → r ≡ false → false ≡ fields_fit (staff_number ∷ password ∷ fs) s 0
   login_stops e t = chain_stops _ _ (test_fails e t) ∙ sym fits-login
 
-  pub login_goes_on : {r q : Bool} → r ≡ begins_login s → not r ≡ false → q ≡ fields_fit fs s 12
+  pub login_goes_on : {r q : Bool} → r ≡ begins_login s → r ≡ true → q ≡ fields_fit fs s 12
       → q ≡ fields_fit (staff_number ∷ password ∷ fs) s 0
   login_goes_on e t q = chain_goes_on _ _ (test_holds e t) q ∙ sym fits-login
 
-  pub target_stops : {r : Bool} → r ≡ begins_target s → not r ≡ true → false ≡ fields_fit (target_fields fs) s 0
+  pub target_stops : {r : Bool} → r ≡ begins_target s → r ≡ false → false ≡ fields_fit (target_fields fs) s 0
   target_stops e t = chain_stops _ _ (test_fails e t) ∙ sym fits-target
 
-  pub target_goes_on : {r q : Bool} → r ≡ begins_target s → not r ≡ false → q ≡ fields_fit fs s 16 → q ≡ fields_fit (target_fields fs) s 0
+  pub target_goes_on : {r q : Bool} → r ≡ begins_target s → r ≡ true → q ≡ fields_fit fs s 16 → q ≡ fields_fit (target_fields fs) s 0
   target_goes_on e t q = chain_goes_on _ _ (test_holds e t) q ∙ sym fits-target
 
   pub target-rest : fields_fit (target_fields fs) s 0 ≡ true → fields_fit fs s 16 ≡ true
