@@ -7,7 +7,7 @@ use mathlib.Core.Bool.{Bool, true, false, cond, ◌&&◌, ◌||◌}
 use lib.Dec.{eqb, leb}
 use borrow.Table.Steps.{cases}
 use borrow.Author.Tests.{leb-true, le-leb, ne_eqb, eqb-true}
-use Rattle.layout.specs.Search.{index_of, index_after}
+use Rattle.layout.specs.Search.{index_of}
 use Rattle.layout.proofs.BooleanLaws.{and_left, and_right, and_both, refuted}
 use Rattle.model.specs.Lists.{contains}
 use Rattle.model.specs.State.{State}
@@ -31,7 +31,7 @@ outside lo hi k n =
 pub by_ranges : (kind : ℕ) {owner reader : Bool} → (kind ≡ 0x0202 → ⊥) → (kind ≡ 0x0502 → ⊥) → (kind ≡ 0x0601 → ⊥) → (kind ≡ 0x0606 → ⊥)
     → (leb 0x0402 kind && leb kind 0x0405) ≡ owner → (leb 0x0504 kind && leb kind 0x0507) ≡ reader
     → cond owner owner_right (cond reader reader_right no_right) ≡ right_of kind
-unfolding right_of contains index_of index_after
+unfolding right_of contains index_of
 by_ranges kind n₁ n₂ n₃ n₄ e f =
     simp (ne_eqb 0x0202 kind (λ q. n₁ (sym q)), ne_eqb 0x0502 kind (λ q. n₂ (sym q)), ne_eqb 0x0601 kind (λ q. n₃ (sym q)), ne_eqb kind 0x0606 n₄, e, f)
 
@@ -59,7 +59,7 @@ module _ (s : State) (x place kind : ℕ) {right : Right} (is : right ≡ right_
           (λ q. stands_by no_right (by_ranges kind (λ e. omega arith) (λ e. omega arith) (λ e. omega arith) (λ e. omega arith) f q) tt)
 
   pub pending_stands : is_pending_kind kind ≡ true → StandsAt right s x place
-  unfolding right_of contains index_of index_after
+  unfolding right_of contains index_of
   pending_stands h =
       cases (eqb kind 0x0202) (λ t. stands_by admin_right (sym (ap right_of (eqb-true kind 0x0202 t))) tt)
       (λ f.

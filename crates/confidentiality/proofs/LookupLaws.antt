@@ -18,7 +18,7 @@ unfoldable pub value_in : List ℕ → List ℕ → ℕ → Option ℕ
 value_in ns xs n = cond (contains n ns) (some (get_or xs (index_of n ns) 0)) none
 
 value_cons : (k : ℕ) (ns : List ℕ) (x : ℕ) (xs : List ℕ) (n : ℕ) → value_in (k ∷ ns) (x ∷ xs) n ≡ cond (eqb k n) (some x) (value_in ns xs n)
-unfolding value_in index_of index_after
+unfolding value_in index_of
 value_cons k ns x xs n =
     ap (λ (t : Bool). cond t (some (get_or (x ∷ xs) (index_after (eqb k n) (index_of n ns)) 0)) none) (contains_cons n k ns) ∙ by_test (eqb k n)
   where

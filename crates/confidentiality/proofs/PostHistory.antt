@@ -10,7 +10,7 @@ use lib.ListN.{length, get_or, set, length-map, get_or-map, get_or-append}
 use lib.Seq.{map-set_same}
 use lib.Dec.{eqb, ltb, leb}
 use borrow.Author.Tests.{ltb-true, eqb-true, not-false}
-use Rattle.layout.specs.Search.{index_of, index_after}
+use Rattle.layout.specs.Search.{index_of}
 use Rattle.layout.specs.Bits.{set_bit, clear_bit}
 use Rattle.layout.proofs.BooleanLaws.{and_left, or_neither, apply_cond}
 use Rattle.reader.specs.Fields.{FieldValue}
@@ -275,7 +275,7 @@ module _ (s : State) (vs : List FieldValue) where
   visibility_change = u_vis_post (number_arg vs 0) (number_arg vs 1) (number_arg vs 2) (number_arg vs 3)
 
   visibility-changed : first_cause (change_refusals s visibility_change) ≡ none → UsersAndPosts s (content 0x0405 vs) (apply_change s visibility_change)
-  unfolding change_refusals post_rows after_login lacks_right right_of is_about is_kind is_post is_registered is_owner owner_number owner_of columns user_numbers post_numbers post_place registered owner_in public_in apply_change update_post user_numbered contains index_of index_after
+  unfolding change_refusals post_rows after_login lacks_right right_of is_about is_kind is_post is_registered is_owner owner_number owner_of columns user_numbers post_numbers post_place registered owner_in public_in apply_change update_post user_numbered contains index_of
   visibility-changed e =
       let u : ℕ = number_arg vs 0 in
       let m : ℕ = number_arg vs 2 in

@@ -5,7 +5,7 @@ use mathlib.Core.Path.{◌≡◌, refl, sym, ap, ◌∙◌}
 use mathlib.Core.List.{List, [], ◌∷◌, ◌++◌, map, flatten, sum, append-nil, map-append}
 use mathlib.Core.Bool.{Bool, true, false}
 use lib.ListN.{length, get_or, set, replicate}
-use Rattle.layout.specs.Search.{index_of, index_after}
+use Rattle.layout.specs.Search.{index_of}
 use Rattle.layout.specs.Bytes.{bytes_at, patch, offset, all_zero}
 use Rattle.layout.specs.Bits.{bit_at, has_bit}
 use Rattle.layout.specs.Numbers.{to_le_bytes, from_le_bytes}
@@ -122,7 +122,7 @@ full_state = record {
 
 -- all that the rows below compute
 unfoldable definitions : Unit {0}
-unfolding example_state numbers_from full_state empty_state records_after records_longer zero_without_users encode cut_board join_records flatten patch bytes_at offset sum records_of record_bytes header_fields user_fields post_fields pending_fields note_fields stored_bytes stored_fits table_records table_fits state_fits to_le_bytes from_le_bytes string_field string_bytes is_string_field stated_length field_string is_string all_zero all_true for_all all_below contains distinct index_of index_after counts_within_limits unused_records_zero strings_within_limits filler_zero user_strings post_strings pending_strings user_count post_count pending_count state_of decode_user decode_post decode_pending user_numbers post_numbers pending_numbers user_at notes_to bit_at has_bit numbers_not_zero numbers_distinct pending_not_registered friends_symmetric no_own_bit bits_below_count notes_requested owners_registered visibility_valid friends_not_requested
+unfolding example_state numbers_from full_state empty_state records_after records_longer zero_without_users encode cut_board join_records flatten patch bytes_at offset sum records_of record_bytes header_fields user_fields post_fields pending_fields note_fields stored_bytes stored_fits table_records table_fits state_fits to_le_bytes from_le_bytes string_field string_bytes is_string_field stated_length field_string is_string all_zero all_true for_all all_below contains distinct index_of counts_within_limits unused_records_zero strings_within_limits filler_zero user_strings post_strings pending_strings user_count post_count pending_count state_of decode_user decode_post decode_pending user_numbers post_numbers pending_numbers user_at notes_to bit_at has_bit numbers_not_zero numbers_distinct pending_not_registered friends_symmetric no_own_bit bits_below_count notes_requested owners_registered visibility_valid friends_not_requested
 definitions = tt
 
 -- ---- sound boards

@@ -62,15 +62,15 @@ numbers-flatten b base size c rs h e s n l =
 -- ---- the search
 
 index_first : (x y : ℕ) (xs : List ℕ) → y ≡ x → index_of x (y ∷ xs) ≡ 0
-unfolding index_of index_after
+unfolding index_of
 index_first x y xs e = ap (λ (t : Bool). index_after t (index_of x xs)) (eq-eqb y x e)
 
 index_later : (x y : ℕ) (xs : List ℕ) → (y ≡ x → ⊥) → index_of x (y ∷ xs) ≡ suc (index_of x xs)
-unfolding index_of index_after
+unfolding index_of
 index_later x y xs n = ap (λ (t : Bool). index_after t (index_of x xs)) (ne_eqb y x n)
 
 pub index_le : (x : ℕ) (xs : List ℕ) → index_of x xs ≤ length xs
-unfolding index_of index_after
+unfolding index_of
 index_le x [] = zero-le
 index_le x (y ∷ xs) = by_test (eqb y x) (index_le x xs)
   where
@@ -79,7 +79,7 @@ index_le x (y ∷ xs) = by_test (eqb y x) (index_le x xs)
     by_test false h = omega arith
 
 pub index_found : (x : ℕ) (xs : List ℕ) → index_of x xs < length xs → get_or xs (index_of x xs) 0 ≡ x
-unfolding index_of index_after
+unfolding index_of
 index_found x [] h = absurd (not-suc-le-zero h)
 index_found x (y ∷ xs) h = by_test (eqb y x) refl (index_found x xs) h
   where
@@ -90,7 +90,7 @@ index_found x (y ∷ xs) h = by_test (eqb y x) refl (index_found x xs) h
 
 -- no earlier element is x, and none at all where the index is the length
 pub index_before : (x : ℕ) (xs : List ℕ) (k : ℕ) → k < index_of x xs → get_or xs k 0 ≡ x → ⊥
-unfolding index_of index_after
+unfolding index_of
 index_before x [] k h e = not-suc-le-zero h
 index_before x (y ∷ xs) k h e = by_test (eqb y x) refl k h e (index_before x xs)
   where

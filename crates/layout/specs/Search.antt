@@ -2,7 +2,7 @@
 use Rattle.std.specs.Prelude.{ℕ, suc, Bool, true, false, List, [], ◌∷◌, eqb}
 
 -- the place behind one more element, which is the first if the element is the one
-unfoldable pub index_after : Bool → ℕ → ℕ
+abbrev pub index_after : Bool → ℕ → ℕ
 index_after true i = 0
 index_after false i = suc i
 

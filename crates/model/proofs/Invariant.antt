@@ -14,7 +14,7 @@ use lib.Dec.{eqb, leb, ltb, lit<}
 use lib.Pow.{pow_pos, pow_mono}
 use borrow.Author.Tests.{ltb-true, ltb-false, lt-ltb, leb-true, leb-false, le-leb, eqb-true, eqb-false, not-true, not-false}
 use borrow.Table.Steps.{cases}
-use Rattle.layout.specs.Search.{index_of, index_after}
+use Rattle.layout.specs.Search.{index_of}
 use Rattle.layout.specs.Bits.{bit_at, has_bit}
 use Rattle.layout.specs.StringFields.{is_string}
 use Rattle.layout.proofs.BooleanLaws.{and_both}
@@ -370,7 +370,7 @@ module _ (s : State) (v : ValidState s) where
   -- a pending registration made a user: it is removed first
   user-valid : (u p w p2 : ℕ) → ChangeFits (c_user u p w p2) → first_cause (change_refusals s (c_user u p w p2)) ≡ none
       → ValidState (apply_change s (c_user u p w p2))
-  unfolding change_refusals pending_rows after_login lacks_right right_of contains index_of index_after apply_change
+  unfolding change_refusals pending_rows after_login lacks_right right_of contains index_of apply_change
   user-valid u p w p2 f e =
       let passes = none_applies (change_refusals s (c_user u p w p2)) e in
       let slot = slot_below s u (not-false (is_registered s u) (passes 0)) in

@@ -159,7 +159,7 @@ length_nil (x ∷ xs) e = absurd (omega arith)
 -- ---- numbers that a list contains
 
 pub contains_cons : (x y : ℕ) (ys : List ℕ) → contains x (y ∷ ys) ≡ (eqb y x || contains x ys)
-unfolding contains index_of index_after
+unfolding contains index_of
 contains_cons x y ys = by_test (eqb y x)
   where
     by_test : (t : Bool) → ltb (index_after t (index_of x ys)) (suc (length ys)) ≡ (t || ltb (index_of x ys) (length ys))
@@ -203,7 +203,7 @@ SamePlace n i k = (i ≡ k) ⊎ ((n ≤ i) × (n ≤ k))
 
 -- numbers added at the end: a place in the list stays, one behind it is behind it still
 pub place_added : (x : ℕ) (xs ys : List ℕ) → SamePlace (length xs) (index_of x (xs ++ ys)) (index_of x xs)
-unfolding index_of index_after
+unfolding index_of
 place_added x [] ys = inr (zero-le, zero-le)
 place_added x (y ∷ xs) ys = by_test (eqb y x) (place_added x xs ys)
   where
@@ -304,7 +304,7 @@ repeated xs x ys c =
 
 -- and each is found at its place
 pub distinct_index : (xs : List ℕ) → distinct xs ≡ true → (i : ℕ) → i < length xs → index_of (get_or xs i 0) xs ≡ i
-unfolding index_of index_after
+unfolding index_of
 distinct_index [] d i h = absurd (not-suc-le-zero h)
 distinct_index (x ∷ xs) d zero h = ap (λ (t : Bool). index_after t (index_of x xs)) (eq-eqb x x refl)
 distinct_index (x ∷ xs) d (suc i) h =
@@ -328,7 +328,7 @@ distinct_remove (suc i) (y ∷ ys) e =
 
 -- removed from a list of distinct numbers, a number is no longer in it
 pub removed_absent : (x : ℕ) (xs : List ℕ) → distinct xs ≡ true → contains x (remove_at (index_of x xs) xs) ≡ false
-unfolding remove_at index_of index_after
+unfolding remove_at index_of
 removed_absent x [] e = unfold contains in refl
 removed_absent x (y ∷ ys) e = by_test (eqb y x) refl (removed_absent x ys (distinct_tail y ys e))
   where

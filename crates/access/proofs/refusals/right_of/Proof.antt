@@ -5,7 +5,7 @@ use mathlib.Core.Path.{◌≡◌, refl, sym, ap}
 use mathlib.Core.Logic.{◌⊎◌, inl, inr}
 use mathlib.Core.Bool.{Bool, cond, ◌&&◌}
 use lib.Dec.{leb}
-use Rattle.layout.specs.Search.{index_of, index_after}
+use Rattle.layout.specs.Search.{index_of}
 use Rattle.model.specs.Lists.{contains}
 use Rattle.model.specs.Refusals.{right_of, owner_right, reader_right, no_right}
 use Rattle.access.proofs.RightLaws.{within, outside, by_ranges}
@@ -25,19 +25,19 @@ unrestricted : (c : tie.At-match-rest) → (kind c < 0x0402) ⊎ (0x0405 < kind 
 unrestricted c h l = ranged c (outside 0x0402 0x0405 (kind c) h) (outside 0x0504 0x0507 (kind c) l)
 
 returns : tie.Need-returns
-unfolding right_of contains index_of index_after
+unfolding right_of contains index_of
 returns c = sym (ap right_of c.match.keys1)
 
 returns-2 : tie.Need-returns-2
-unfolding right_of contains index_of index_after
+unfolding right_of contains index_of
 returns-2 c = sym (ap right_of c.match.keys2)
 
 returns-3 : tie.Need-returns-3
-unfolding right_of contains index_of index_after
+unfolding right_of contains index_of
 returns-3 c = sym (ap right_of c.match.keys3)
 
 returns-4 : tie.Need-returns-4
-unfolding right_of contains index_of index_after
+unfolding right_of contains index_of
 returns-4 c = sym (ap right_of c.match.keys4)
 
 returns-5 : tie.Need-returns-5

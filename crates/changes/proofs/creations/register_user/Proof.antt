@@ -7,7 +7,7 @@ use mathlib.Core.List.{List, []}
 use lib.ListN.{length}
 use borrow.Author.Rules.{rules}
 use borrow.Author.Tests.{le-leb, lt-leb}
-use Rattle.layout.specs.Search.{index_of, index_after}
+use Rattle.layout.specs.Search.{index_of}
 use Rattle.layout.specs.Bytes.{patch}
 use Rattle.layout.specs.Numbers.{to_le_bytes}
 use Rattle.layout.specs.Tables.{without_record}
@@ -45,7 +45,7 @@ abbrev start2 : tie.Else2 → tie.Start
 start2 c = start1 (passed2 c)
 
 behind-pending : (c : tie.Else1) → LeftBehind 4 (start1 c)
-unfolding change_refusals pending_rows after_login lacks_right right_of contains index_of index_after
+unfolding change_refusals pending_rows after_login lacks_right right_of contains index_of
 behind-pending c = passed_first (pending_rows _ 0x0202 _ _ _ []) _ (all_rows _ _) c.before.pending-refusal.ensures c.if1.false
 
 -- the pending registration is there
@@ -57,11 +57,11 @@ argument-bounds : (c : tie.Start) → (c.args.v < 2 ^ 32) × (c.args.password < 
 argument-bounds c = (omega arith, omega arith)
 
 returns : tie.Need-returns
-unfolding change_refusals pending_rows after_login lacks_right right_of contains index_of index_after
+unfolding change_refusals pending_rows after_login lacks_right right_of contains index_of
 returns c = refused_first (pending_rows _ 0x0202 _ _ _ []) _ (all_rows _ _) c.before.pending-refusal.ensures c.if1.true
 
 returns-2 : tie.Need-returns-2
-unfolding change_refusals pending_rows after_login lacks_right right_of contains index_of index_after cause_number
+unfolding change_refusals pending_rows after_login lacks_right right_of contains index_of cause_number
 returns-2 c =
     let passed = c.before.before.before in
     let n = c.before.user-count.ensures in
@@ -87,7 +87,7 @@ add-user-requires c κs =
     (omega arith, omega arith)
 
 returns-3 : tie.Need-returns-3
-unfolding change_refusals pending_rows after_login lacks_right right_of contains index_of index_after
+unfolding change_refusals pending_rows after_login lacks_right right_of contains index_of
 returns-3 c =
     let added = c.before.before in
     let counted = added.before.before.before.before in

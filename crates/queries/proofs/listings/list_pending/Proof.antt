@@ -3,7 +3,7 @@ use native.Mathlib.Omega.{arith}
 use mathlib.Core.Path.{◌≡◌, refl, ap}
 use lib.Dec.{lit≤}
 use borrow.Author.Rules.{rules}
-use Rattle.layout.specs.Search.{index_of, index_after}
+use Rattle.layout.specs.Search.{index_of}
 use Rattle.model.specs.Lists.{contains}
 use Rattle.model.specs.Board.{decode}
 use Rattle.model.specs.Actions.{l_pending_u_reqs}
@@ -36,7 +36,7 @@ returns c =
     (login-refuses _ _ _ _ c.before.before.login-refusal.ensures c.before.if1.true) c.before.if1.true
 
 right-refusal-requires : tie.Need-right-refusal-requires
-unfolding right_of contains index_of index_after
+unfolding right_of contains index_of
 right-refusal-requires c κs =
     let found = c.before.before.before in
     ((entry c.before).requires.0, found.user-slot.ensures, rw c.right_of.ensures tt)
