@@ -55,10 +55,10 @@ module _ (xs ys : List RefusalRow) {k : ℕ} (e : k ≡ first_number xs) where
 
 -- r is the test whose failure the row refuses
 module _ (cause : Cause) (rows : List RefusalRow) {r t : Bool} (e : r ≡ t) where
-  pub test_refuses : not r ≡ true → cause_number cause ≡ first_number ((cause, not t) ∷ rows)
+  pub test_refuses : r ≡ false → cause_number cause ≡ first_number ((cause, not t) ∷ rows)
   test_refuses f = sym (row_applies cause rows (ap not (sym e) ∙ f))
 
-  pub test_passes : not r ≡ false → {n : ℕ} → n ≡ first_number rows → n ≡ first_number ((cause, not t) ∷ rows)
+  pub test_passes : r ≡ true → {n : ℕ} → n ≡ first_number rows → n ≡ first_number ((cause, not t) ∷ rows)
   test_passes f g = g ∙ sym (row-passes cause rows (ap not (sym e) ∙ f))
 
 -- i is the place that a search of a table gave, n the table's count: the record that the row asks for is there if i is below n

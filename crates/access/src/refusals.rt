@@ -13,7 +13,7 @@ use crate::records::{pending_count, post_count, user_count, user_password};
 use reader::Login;
 
 // What a kind asks of a sender who is registered and has given the right password.
-#[derive(Drop)]
+#[derive(Clone, Copy)]
 pub enum Right {
     Admin,
     Owner,

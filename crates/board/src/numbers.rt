@@ -29,9 +29,9 @@ fn is_absent_filtered(
     first: u64,
     second: u64,
 ) -> bool
-    requires le_size { (4 ≤ size) × (base + n * size ≤ length b.now) }
-    requires n_value { filter_covers first_place first (record_numbers b.now base size n) ≡ true }
-    requires n_value_2 { filter_covers second_place second (record_numbers b.now base size n) ≡ true }
+    requires in_table { (4 ≤ size) × (base + n * size ≤ length b.now) }
+    requires first_covers { filter_covers first_place first (record_numbers b.now base size n) ≡ true }
+    requires second_covers { filter_covers second_place second (record_numbers b.now base size n) ≡ true }
     ensures { result ≡ not (contains x (record_numbers b.now base size n)) }
 {
     if ((first >> (x % 64)) & (second >> (x / 64 % 64))) % 2 == 0 {

@@ -11,7 +11,7 @@ ghost use Rattle.std.specs.Prelude.{◌≡◌};
 pub const HEAD_SIZE: usize = 4;
 
 // The number, and the length of the answer's body.
-#[derive(Drop)]
+#[derive(Clone, Copy)]
 pub struct Reply {
     pub number: u16,
     pub len: usize,

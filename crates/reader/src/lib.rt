@@ -27,21 +27,21 @@ pub const TEXT_LIMIT: usize = 256;
 pub const NOTE_LIMIT: usize = 24;
 
 // Who sends: U and P.
-#[derive(Drop)]
+#[derive(Clone, Copy)]
 pub struct Login {
     pub user: u32,
     pub password: u64,
 }
 
 // The place of a string: within the body of a message, or in the bytes that are lent to write one.
-#[derive(Drop)]
+#[derive(Clone, Copy)]
 pub struct Span {
     pub start: usize,
     pub len: usize,
 }
 
 // Refusals 3, 4 and 5: a bad frame, an unknown kind, a body that does not fit its fields.
-#[derive(Drop)]
+#[derive(Clone, Copy)]
 pub enum Refusal {
     Frame,
     Kind,
@@ -49,7 +49,7 @@ pub enum Refusal {
 }
 
 // A message: a case for each kind with its fields, named by CoSMed's action, or the refusal.
-#[derive(Drop)]
+#[derive(Clone, Copy)]
 pub enum Message {
     // 0101 U P
     StartSys(Login),

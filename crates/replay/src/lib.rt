@@ -12,7 +12,7 @@ use reader::frame::frame_length;
 use step::{ANSWER_LIMIT, step_sound};
 
 // Why a replay stopped.
-#[derive(Drop)]
+#[derive(Clone, Copy)]
 pub enum Stop {
     JournalUsed,
     BoardUnsound,
@@ -21,7 +21,7 @@ pub enum Stop {
 }
 
 // Why it stopped, the messages done, the journal bytes passed and the answer bytes written.
-#[derive(Drop)]
+#[derive(Clone, Copy)]
 pub struct Replayed {
     pub stop: Stop,
     pub messages: usize,

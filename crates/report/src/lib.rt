@@ -32,7 +32,7 @@ pub const ANSWER_MOST: usize = ANSWER_LIMIT - 2;
 const ANSWERS_SIZE: usize = 4096;
 
 // How many bytes were written, or that the text buffer is too short.
-#[derive(Drop)]
+#[derive(Clone, Copy)]
 pub enum Report {
     Written(usize),
     TooShort,

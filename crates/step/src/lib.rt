@@ -33,7 +33,7 @@ use reader::{Message, Refusal, Span, decode};
 pub const ANSWER_LIMIT: usize = 518;
 
 // The number that is returned, 0 for accepted, and the bytes written.
-#[derive(Drop)]
+#[derive(Clone, Copy)]
 pub struct Answer {
     pub number: u16,
     pub written: usize,

@@ -54,11 +54,11 @@ module _ (vs : List ℕ) (word : ℕ) where
     tested : r ≡ leb (word_count f) (length (drop word vs))
     tested = e ∙ ap (λ (k : ℕ). leb (word + k) (length vs)) c ∙ words-there (word_count f) (has_words f)
 
-    pub words-missing : (lent : List ℕ) → not r ≡ true → false ≡ words_fit lent f (drop word vs)
+    pub words-missing : (lent : List ℕ) → r ≡ false → false ≡ words_fit lent f (drop word vs)
     unfolding words_fit
     words-missing lent t = chain_stops (leb (word_count f) (length (drop word vs))) (value_fits f (word_value lent f (drop word vs))) (test_fails tested t)
 
-    pub words_found : not r ≡ false → word_count f ≤ length (drop word vs)
+    pub words_found : r ≡ true → word_count f ≤ length (drop word vs)
     words_found t = leb-true (word_count f) (length (drop word vs)) (test_holds tested t)
 
 -- ---- whether a field can hold the value
@@ -85,11 +85,11 @@ module _ (limit : ℕ) (lent : List ℕ) (s : Span) {r : Bool} (e : r ≡ leb (s
   span_by : Bool → FieldValue
   span_by t = cond t (string_value s.start (bytes_at lent s.start s.len)) out_of_body
 
-  pub span-outside : not r ≡ true → false ≡ value_fits (string limit) (span_value lent s)
+  pub span-outside : r ≡ false → false ≡ value_fits (string limit) (span_value lent s)
   unfolding value_fits span_value span_by
   span-outside t = sym (ap (λ (x : Bool). value_fits (string limit) (span_by x)) (test_fails e t))
 
-  pub span_tested : not r ≡ false → leb s.len limit ≡ value_fits (string limit) (span_value lent s)
+  pub span_tested : r ≡ true → leb s.len limit ≡ value_fits (string limit) (span_value lent s)
   unfolding value_fits span_value span_by is_string
   span_tested t =
       let inside = leb-true (s.start + s.len) (length lent) (test_holds e t) in

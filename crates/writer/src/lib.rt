@@ -33,7 +33,7 @@ const UNKNOWN_KIND: u16 = 4;
 const BAD_BODY: u16 = 5;
 
 // 0 or the number of the refusal, and how many bytes or values were written.
-#[derive(Drop)]
+#[derive(Clone, Copy)]
 pub struct Outcome {
     pub number: u16,
     pub written: usize,

@@ -7,7 +7,7 @@ use reader::{Login, Message, Refusal, Span};
 
 // The kind, or the number of a refusal, and the words of the values: a number is one word, a string two, its start and its length. At most seven,
 // those of 0401; the words behind the first `count` mean nothing.
-#[derive(Drop)]
+#[derive(Clone, Copy)]
 pub struct Values {
     pub kind: u16,
     pub count: usize,

@@ -8,14 +8,14 @@ ghost use Rattle.writer.specs.Words.{listed_fields};
 use reader::{INFO_LIMIT, NAME_LIMIT, NOTE_LIMIT, TEXT_LIMIT, TITLE_LIMIT};
 
 // A number of so many bytes with its least and greatest value, or a string with its limit.
-#[derive(Drop)]
+#[derive(Clone, Copy)]
 pub enum Field {
     Number(usize, u64, u64),
     String(usize),
 }
 
 // The lists of fields that kinds have.
-#[derive(Drop)]
+#[derive(Clone, Copy)]
 pub enum Fields {
     // U P
     Login,

@@ -1,0 +1,10 @@
+-- `pending_count` meets its contract: the count of the header is read off the board's bytes.
+use mathlib.Core.Path.{sym, ◌∙◌}
+use lib.Dec.{lit≤}
+use Rattle.model.specs.Board.{pending_count}
+use Rattle.model.proofs.CutLaws.{header_number}
+use Rattle.board.proofs.header.pending_count.Goals as goal
+
+pub returns : goal.returns
+unfolding pending_count
+returns c = c.read_u16.ensures ∙ sym (header_number c.args.b.now 4 2 (lit≤ tt))
