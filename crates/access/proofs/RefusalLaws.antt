@@ -56,18 +56,18 @@ module _ (xs ys : List RefusalRow) {k : ℕ} (e : k ≡ first_number xs) where
 -- r is the test whose failure the row refuses
 module _ (cause : Cause) (rows : List RefusalRow) {r t : Bool} (e : r ≡ t) where
   pub test_refuses : r ≡ false → cause_number cause ≡ first_number ((cause, not t) ∷ rows)
-  test_refuses f = sym (row_applies cause rows (ap not (sym e) ∙ f))
+  test_refuses f = sym (row_applies cause rows (ap not (sym e ∙ f)))
 
   pub test_passes : r ≡ true → {n : ℕ} → n ≡ first_number rows → n ≡ first_number ((cause, not t) ∷ rows)
-  test_passes f g = g ∙ sym (row-passes cause rows (ap not (sym e) ∙ f))
+  test_passes f g = g ∙ sym (row-passes cause rows (ap not (sym e ∙ f)))
 
 -- i is the place that a search of a table gave, n the table's count: the record that the row asks for is there if i is below n
 module _ (cause : Cause) (rows : List RefusalRow) {i n : ℕ} {t : Bool} (e : ltb i n ≡ t) where
   pub missing-refuses : n ≤ i → cause_number cause ≡ first_number ((cause, not t) ∷ rows)
-  missing-refuses h = test_refuses cause rows e (ap not (le-ltb i n h))
+  missing-refuses h = test_refuses cause rows e (le-ltb i n h)
 
   pub found_passes : i < n → {k : ℕ} → k ≡ first_number rows → k ≡ first_number ((cause, not t) ∷ rows)
-  found_passes h = test_passes cause rows e (ap not (lt-ltb i n h))
+  found_passes h = test_passes cause rows e (lt-ltb i n h)
 
 pub none_refuse : 0 ≡ first_number []
 unfolding first_number first_cause

@@ -1,0 +1,10 @@
+-- `are_friends` meets its contract: the bit of slot j is tested in the friend row of slot i.
+use mathlib.Core.Path.{ap, ◌∙◌}
+use Prim.Native.Nat.{ℕ}
+use Rattle.layout.specs.Bits.{has_bit}
+use Rattle.access.proofs.lookups.are_friends.Goals as goal
+
+pub returns : goal.returns
+returns c =
+    let a = c.args in
+    c.has_bit.ensures ∙ ap (λ (row : ℕ). has_bit row a.j) c.user_friends.ensures

@@ -1,0 +1,12 @@
+-- `pending_count` meets its contract: the header of a sound board holds the count.
+use native.Mathlib.Omega.{arith}
+use mathlib.Core.Path.{◌∙◌}
+use Rattle.model.proofs.ReadingLaws.{read-pending-count}
+use Rattle.model.proofs.SoundBoards.{sound-length}
+use Rattle.access.proofs.records.pending_count.Goals as goal
+
+pub read_u16-requires : goal.read_u16-requires
+read_u16-requires c = omega (arith, sound-length c.requires)
+
+pub returns : goal.returns
+returns c = c.read_u16.ensures ∙ read-pending-count c.requires.encoded
