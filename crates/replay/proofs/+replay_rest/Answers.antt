@@ -1,0 +1,83 @@
+-- The goals of `replay_rest`: each stop is one of the model's, and a message done in front of the rest is the model's next message.
+use Prim.Native.Nat.{ℕ, ◌≤◌, ◌<◌}
+use native.Mathlib.Omega.{arith}
+use mathlib.Core.Path.{◌≡◌, sym, ap, ◌∙◌}
+use mathlib.Core.List.{List}
+use mathlib.Core.Bool.{true}
+use lib.ListN.{length}
+use lib.Seq.{length-take-le}
+use lib.Pow.{are_bytes}
+use Rattle.layout.proofs.ByteLaws.{length_rest}
+use Rattle.layout.proofs.NumberLaws.{bytes_of}
+use Rattle.reader.specs.Frames.{frame_length}
+use Rattle.reader.proofs.FrameLaws.{frame-inside}
+use Rattle.model.specs.Soundness.{is_sound}
+use Rattle.model.specs.Step.{StepResult}
+use Rattle.model.proofs.StepTheorems.{step_sound}
+use Rattle.replay.proofs.ReplayLaws.{answer-inside, journal_used_lem, buffer-short, frame-cut, message-done}
+use Rattle.replay.proofs.+replay_rest.Goals as goal
+
+-- a frame that was found lies within the journal
+frame-in : (journal : List ℕ) {size : ℕ} → size ≡ frame_length journal → size ≤ length journal
+frame-in journal e = omega (arith, frame-inside journal)
+
+pub returns-then-len-eq0 : goal.returns-then-len-eq0
+returns-then-len-eq0 t c = journal_used_lem _ _ _ c.stopped.ensures c.if-len-eq0.true
+
+pub returns-then-out-lt-ANSWER_LIMIT : goal.returns-then-out-lt-ANSWER_LIMIT
+returns-then-out-lt-ANSWER_LIMIT t c =
+    buffer-short _ _ _ c.stopped-then-out-lt-ANSWER_LIMIT.ensures c.if-len-eq0.false c.if-out-lt-ANSWER_LIMIT.true
+
+pub returns-then-size-eq0 : goal.returns-then-size-eq0
+returns-then-size-eq0 t c =
+    frame-cut _ _ _ c.stopped-then-size-eq0.ensures c.if-len-eq0.false c.if-out-lt-ANSWER_LIMIT.false
+    (sym c.frame_length-size.ensures ∙ c.if-size-eq0.true)
+
+pub slice_bounds-step_sound-end : goal.slice_bounds-step_sound-end
+slice_bounds-step_sound-end t c =
+    sym (length-take-le c.frame_length-size.result c.args.journal.now (frame-in c.args.journal.now c.frame_length-size.ensures))
+
+-- the parts lent on
+pub slice_bounds-replay_rest-count : goal.slice_bounds-replay_rest-count
+slice_bounds-replay_rest-count t c = frame-in c.args.journal.now c.frame_length-size.ensures
+
+pub slice_bounds-replay_rest-start : goal.slice_bounds-replay_rest-start
+slice_bounds-replay_rest-start t c = frame-in c.args.journal.now c.frame_length-size.ensures
+
+pub slice_bounds-replay_rest-count-2 : goal.slice_bounds-replay_rest-count-2
+slice_bounds-replay_rest-count-2 t c =
+    let bytes : are_bytes c.args.board.now ≡ true = bytes_of c.args.board.now (λ i h. omega (arith, c.slice_known-1.given i)) in
+    let s = c.step_sound-answer in
+    answer-inside _ _ _ bytes s.result s.new.board s.new.out s.ensures
+
+pub slice_bounds-replay_rest-start-2 : goal.slice_bounds-replay_rest-start-2
+slice_bounds-replay_rest-start-2 t c =
+    let bytes : are_bytes c.args.board.now ≡ true = bytes_of c.args.board.now (λ i h. omega (arith, c.slice_known-1.given i)) in
+    let s = c.step_sound-answer in
+    answer-inside _ _ _ bytes s.result s.new.board s.new.out s.ensures
+
+-- the rest is shorter, and the board that a message left is sound
+pub replay_rest-rest-requires : goal.replay_rest-rest-requires
+replay_rest-rest-requires t c =
+    let journal : List ℕ = c.args.journal.now in
+    let bytes : are_bytes c.args.board.now ≡ true = bytes_of c.args.board.now (λ i h. omega (arith, c.slice_known-1.given i)) in (
+      omega (
+        arith,
+        length_rest journal c.frame_length-size.result,
+        frame-in journal c.frame_length-size.ensures,
+        c.if-size-eq0.false,
+        c.decreases,
+      ),
+      ap (λ (x : StepResult). is_sound x.board) c.step_sound-answer.ensures
+          ∙ step_sound _ c.args.board.now c.args.out.now bytes c.requires,
+    )
+
+pub returns : goal.returns
+returns t c =
+    let a = c.args in
+    let bytes : are_bytes a.board.now ≡ true = bytes_of a.board.now (λ i h. omega (arith, c.slice_known-1.given i)) in
+    let s = c.step_sound-answer in
+    let r = c.replay_rest-rest in
+    message-done a.journal.now a.board.now a.out.now bytes c.frame_length-size.result s.result s.new.board s.new.out r.result
+    r.new.board r.new.out c.if-len-eq0.false c.if-out-lt-ANSWER_LIMIT.false c.frame_length-size.ensures c.if-size-eq0.false
+    s.ensures r.ensures
