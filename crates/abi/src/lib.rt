@@ -1,4 +1,4 @@
-// The kernel for programs in C and Rust (include/staff_board.h): numbers and byte slices only.
+// The kernel as programs in C and Rust call it (include/staff_board.h): numbers and byte slices only. `abi_c` exports these functions.
 #![tactic(auto)]
 
 ghost use Rattle.std.specs.Prelude.{◌≡◌, cond, ◌+◌, ◌*◌, ◌<◌};
@@ -23,8 +23,7 @@ const COUNTS_SIZE: usize = 24;
 const WRONG_COUNTS: u32 = 255;
 
 // Whether a board is sound: 1 if it is, else 0.
-#[unsafe(no_mangle)]
-pub extern "C" fn staff_board_sound(board: &[u8]) -> u32
+pub fn staff_board_sound(board: &[u8]) -> u32
     ensures { result ≡ cond (is_sound board.now) 1 0 }
 {
     if sound(board) {
@@ -42,8 +41,7 @@ fn packed(written: usize, number: u16) -> u32
 }
 
 // One message on a board.
-#[unsafe(no_mangle)]
-pub extern "C" fn staff_board_step(message: &[u8], board: &mut [u8], answer: &mut [u8]) -> u32
+pub fn staff_board_step(message: &[u8], board: &mut [u8], answer: &mut [u8]) -> u32
     ensures { step_called result board.new answer.new ≡ step_of message.now board.old answer.old }
 {
     let done = step(message, board, answer);
@@ -63,8 +61,7 @@ fn stop_number(stop: Stop) -> u32
 
 // A journal on a board: the number of the stop. The counts are messages done, journal bytes passed and answer bytes written; where they have not
 // 24 bytes nothing is done.
-#[unsafe(no_mangle)]
-pub extern "C" fn staff_board_replay(
+pub fn staff_board_replay(
     journal: &[u8],
     board: &mut [u8],
     answers: &mut [u8],
@@ -87,8 +84,7 @@ pub extern "C" fn staff_board_replay(
 }
 
 // The frame of a message that is given as its kind and the words of its values.
-#[unsafe(no_mangle)]
-pub extern "C" fn staff_board_write(kind: u32, values: &[u64], lent: &[u8], frame: &mut [u8]) -> u32
+pub fn staff_board_write(kind: u32, values: &[u64], lent: &[u8], frame: &mut [u8]) -> u32
     ensures { write_called result frame.new ≡ encode_of (word_content lent.now kind values.now) frame.old }
 {
     let done = write(kind, values, lent, frame);
@@ -96,8 +92,7 @@ pub extern "C" fn staff_board_write(kind: u32, values: &[u64], lent: &[u8], fram
 }
 
 // The way back: the words of a message's values.
-#[unsafe(no_mangle)]
-pub extern "C" fn staff_board_read(message: &[u8], values: &mut [u64]) -> u32
+pub fn staff_board_read(message: &[u8], values: &mut [u64]) -> u32
     ensures { write_called result values.new ≡ read_of (message_content message.now) values.old }
 {
     let done = read(message, values);
