@@ -1,10 +1,9 @@
 -- Laws of tests: joined by `&&` and `||`, in chains as functions with early returns leave them, of the choices by them (`cond`), and of
 -- tests whether a number is 0.
 use Prim.Native.Nat.{ℕ, zero, suc}
-use mathlib.Core.Bool.{Bool, true, false, cond, ◌&&◌, ◌||◌, not, and-false, true≢false, false≢true}
+use mathlib.Core.Bool.{Bool, true, false, cond, ◌&&◌, ◌||◌, and-false, true≢false, false≢true}
 use mathlib.Core.Path.{◌≡◌, refl, sym, ap, ◌∙◌}
 use lib.Dec.{eqb, leb, ltb, leb-suc-zero, leb-suc-suc, eqb-suc-zero}
-use borrow.Author.Tests.{not-true, not-false}
 
 pub and_left : (a b : Bool) → (a && b) ≡ true → a ≡ true
 and_left true b e = refl

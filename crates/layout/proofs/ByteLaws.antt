@@ -5,7 +5,7 @@ use native.Mathlib.Numerals.{add-one}
 use native.Mathlib.Omega.{arith}
 use mathlib.Core.Path.{◌≡◌, refl, sym, ap, ap₂, ◌∙◌}
 use mathlib.Core.List.{List, [], ◌∷◌, ◌++◌, append_assoc, append-nil}
-use mathlib.Core.Bool.{Bool, true, false, ◌&&◌, cond, and_assoc, not}
+use mathlib.Core.Bool.{Bool, true, false, ◌&&◌, cond, and_assoc}
 use lib.ListN.{length, take, drop, get_or, set, replicate, length-append, length-drop, take-append-drop}
 use lib.Seq.{length-take-le, take_all, take-nil, take-take, take-add, drop-drop, drop-cons, take_at, take-append-add, take-append-le, drop-append-add, drop-append-le, drop-length, set_split}
 use lib.Dec.{eqb, leb}

@@ -5,7 +5,7 @@
 --     posts-computed                           64 posts make an answer of 518 bytes
 --     listing-lines, listing-cut               what the listing's messages get, and where it is cut
 -- AnswerTable has the whole answers of all queries, CaseTheorems the tables on bytes.
-use Prim.Native.Nat.{ℕ, zero, suc, ◌+◌}
+use Prim.Native.Nat.{ℕ, zero, suc}
 use mathlib.Core.Path.{◌≡◌, refl}
 use mathlib.Core.List.{List, [], ◌∷◌, ◌++◌, map, flatten}
 use mathlib.Core.Option.{Option, some}

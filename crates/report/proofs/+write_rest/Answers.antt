@@ -4,7 +4,7 @@ use native.Mathlib.Omega.{arith}
 use mathlib.Core.Path.{◌≡◌, refl, sym, ap, ◌∙◌, subst}
 use mathlib.Core.List.{List}
 use mathlib.Core.Bool.{true}
-use lib.ListN.{length, drop, length-drop}
+use lib.ListN.{drop, length-drop}
 use lib.Pow.{are_bytes}
 use borrow.Author.Rules.{part_to_end}
 use Rattle.layout.specs.Bytes.{bytes_written, put_bytes}
@@ -14,7 +14,6 @@ use Rattle.layout.proofs.WrittenLaws.{put_count, put-behind}
 use Rattle.model.specs.Board.{decode}
 use Rattle.replay.specs.Results.{stop_number, replayed}
 use Rattle.report.specs.Report.{cut_line, run_text}
-use Rattle.report.specs.MessageLines.{lines_in}
 use Rattle.report.proofs.MessageLineLaws.{lines_short}
 use Rattle.report.proofs.ReplayText.{TextOf, sound_text, text_short, cut_short}
 use Rattle.report.proofs.+write_rest.Goals as goal

@@ -37,33 +37,30 @@ span_bytes-requires c =
     span-inside (spans_of (case-of (goal.at.span_bytes-requires c).After-body-body c.in-CNUReq.is)) c.body-body.ensures
 
 pub request_registration-requires : goal.request_registration-requires
-request_registration-requires c =
-    (
-      c.requires.0,
-      span-short (spans_of (case-of (goal.at.request_registration-requires c).After-body-body c.in-CNUReq.is)) (part_of (goal.at.request_registration-requires c).After-body-body c.in-CNUReq.note c.span_bytes.ensures),
-    )
+request_registration-requires c = (
+  c.requires.0,
+  span-short (spans_of (case-of (goal.at.request_registration-requires c).After-body-body c.in-CNUReq.is)) (part_of (goal.at.request_registration-requires c).After-body-body c.in-CNUReq.note c.span_bytes.ensures),
+)
 
 pub span_bytes-requires-in-CPost : goal.span_bytes-requires-in-CPost
 span_bytes-requires-in-CPost c =
     span-inside (spans_of (case-of (goal.at.span_bytes-requires-in-CPost c).After-body-body c.in-CPost.is)) c.body-body.ensures
 
 pub create_post-requires : goal.create_post-requires
-create_post-requires c =
-    (
-      c.requires.0,
-      span-short (spans_of (case-of (goal.at.create_post-requires c).After-body-body c.in-CPost.is)) (part_of (goal.at.create_post-requires c).After-body-body c.in-CPost.title c.span_bytes-in-CPost.ensures),
-    )
+create_post-requires c = (
+  c.requires.0,
+  span-short (spans_of (case-of (goal.at.create_post-requires c).After-body-body c.in-CPost.is)) (part_of (goal.at.create_post-requires c).After-body-body c.in-CPost.title c.span_bytes-in-CPost.ensures),
+)
 
 pub span_bytes-requires-in-CFriendReq : goal.span_bytes-requires-in-CFriendReq
 span_bytes-requires-in-CFriendReq c =
     span-inside (spans_of (case-of (goal.at.span_bytes-requires-in-CFriendReq c).After-body-body c.in-CFriendReq.is)) c.body-body.ensures
 
 pub request_friend-requires : goal.request_friend-requires
-request_friend-requires c =
-    (
-      c.requires.0,
-      span-short (spans_of (case-of (goal.at.request_friend-requires c).After-body-body c.in-CFriendReq.is)) (part_of (goal.at.request_friend-requires c).After-body-body c.in-CFriendReq.note c.span_bytes-in-CFriendReq.ensures),
-    )
+request_friend-requires c = (
+  c.requires.0,
+  span-short (spans_of (case-of (goal.at.request_friend-requires c).After-body-body c.in-CFriendReq.is)) (part_of (goal.at.request_friend-requires c).After-body-body c.in-CFriendReq.note c.span_bytes-in-CFriendReq.ensures),
+)
 
 pub span_bytes-requires-in-UUser : goal.span_bytes-requires-in-UUser
 span_bytes-requires-in-UUser c =
@@ -86,22 +83,20 @@ span_bytes-requires-in-UTitlePost c =
     span-inside (spans_of (case-of (goal.at.span_bytes-requires-in-UTitlePost c).After-body-body c.in-UTitlePost.is)) c.body-body.ensures
 
 pub update_title-requires : goal.update_title-requires
-update_title-requires c =
-    (
-      c.requires.0,
-      span-short (spans_of (case-of (goal.at.update_title-requires c).After-body-body c.in-UTitlePost.is)) (part_of (goal.at.update_title-requires c).After-body-body c.in-UTitlePost.title c.span_bytes-in-UTitlePost.ensures),
-    )
+update_title-requires c = (
+  c.requires.0,
+  span-short (spans_of (case-of (goal.at.update_title-requires c).After-body-body c.in-UTitlePost.is)) (part_of (goal.at.update_title-requires c).After-body-body c.in-UTitlePost.title c.span_bytes-in-UTitlePost.ensures),
+)
 
 pub span_bytes-requires-in-UTextPost : goal.span_bytes-requires-in-UTextPost
 span_bytes-requires-in-UTextPost c =
     span-inside (spans_of (case-of (goal.at.span_bytes-requires-in-UTextPost c).After-body-body c.in-UTextPost.is)) c.body-body.ensures
 
 pub update_text-requires : goal.update_text-requires
-update_text-requires c =
-    (
-      c.requires.0,
-      span-short (spans_of (case-of (goal.at.update_text-requires c).After-body-body c.in-UTextPost.is)) (part_of (goal.at.update_text-requires c).After-body-body c.in-UTextPost.text c.span_bytes-in-UTextPost.ensures),
-    )
+update_text-requires c = (
+  c.requires.0,
+  span-short (spans_of (case-of (goal.at.update_text-requires c).After-body-body c.in-UTextPost.is)) (part_of (goal.at.update_text-requires c).After-body-body c.in-UTextPost.text c.span_bytes-in-UTextPost.ensures),
+)
 
 pub update_visibility-requires : goal.update_visibility-requires
 update_visibility-requires c =

@@ -1,5 +1,4 @@
 -- `write_answers` meets its contract. The loop's invariant (`LinesLeft`): the lines that are left make the text whole.
-use Prim.Native.Nat.{◌-◌}
 use Rattle.transcript.proofs.AnswerLineLaws.{LinesLeft}
 use Rattle.transcript.proofs.write_answers.Given as goal
 

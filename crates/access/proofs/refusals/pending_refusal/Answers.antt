@@ -26,12 +26,11 @@ returns-then-right_number-ne0 c =
     (earlier_refuse _ _ (of_kind _ _ _ _ _ c.right_refusal-right_number.ensures c.right_of.ensures) c.if-right_number-ne0.true)
 
 pub right_refusal-right_number-requires : goal.right_refusal-right_number-requires
-right_refusal-right_number-requires c =
-    (
-      c.requires.0,
-      c.user_slot-i.ensures,
-      pending_stands _ _ _ _ c.right_of.ensures c.requires.2,
-    )
+right_refusal-right_number-requires c = (
+  c.requires.0,
+  c.user_slot-i.ensures,
+  pending_stands _ _ _ _ c.right_of.ensures c.requires.2,
+)
 
 -- what follows the rows of the login and of the right decides
 behind-right : (c : Else-right_number-ne0) (rows : List RefusalRow) {n : ℕ} → n ≡ first_number rows

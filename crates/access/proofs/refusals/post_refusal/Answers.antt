@@ -17,12 +17,11 @@ returns-then-post_count-place c =
     (missing-refuses post_missing _ (post_at_lem _ _ c.requires.1 c.post_count.ensures) c.if-post_count-place.true)
 
 pub right_refusal-requires : goal.right_refusal-requires
-right_refusal-requires c =
-    (
-      c.requires.0,
-      c.user_slot-i.ensures,
-      post_stands _ _ _ _ c.right_of.ensures c.requires.2 c.requires.1,
-    )
+right_refusal-requires c = (
+  c.requires.0,
+  c.user_slot-i.ensures,
+  post_stands _ _ _ _ c.right_of.ensures c.requires.2 c.requires.1,
+)
 
 pub returns : goal.returns
 unfolding post_rows

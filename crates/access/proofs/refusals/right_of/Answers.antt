@@ -3,11 +3,9 @@ use Prim.Native.Nat.{ℕ, ◌<◌}
 use native.Mathlib.Omega.{arith}
 use mathlib.Core.Path.{◌≡◌, refl, sym, ap}
 use mathlib.Core.Logic.{◌⊎◌, inl, inr}
-use mathlib.Core.Bool.{Bool, cond, ◌&&◌}
-use lib.Dec.{leb}
 use Rattle.layout.specs.Search.{index_of}
 use Rattle.model.specs.Lists.{contains}
-use Rattle.model.specs.Refusals.{right_of, owner_right, reader_right, no_right}
+use Rattle.model.specs.Refusals.{right_of, no_right}
 use Rattle.access.proofs.RightLaws.{within, outside, by_ranges}
 use Rattle.access.proofs.refusals.right_of.Goals as goal
 

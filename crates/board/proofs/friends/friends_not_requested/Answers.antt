@@ -1,5 +1,5 @@
 -- The goals of `friends_not_requested` that need a hand.
-use Prim.Native.Nat.{ℕ, ◌-◌}
+use Prim.Native.Nat.{ℕ}
 use native.Mathlib.Omega.{arith}
 use mathlib.Core.Path.{◌≡◌, sym, ap₂, ◌∙◌}
 use lib.Bits.{bit_and}

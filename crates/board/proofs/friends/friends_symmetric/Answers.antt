@@ -1,5 +1,4 @@
 -- The goals of `friends_symmetric` that need a hand.
-use Prim.Native.Nat.{◌-◌}
 use native.Mathlib.Omega.{arith}
 use Rattle.layout.proofs.BooleanLaws.{test_fails, test_holds}
 use Rattle.model.proofs.SoundnessLaws.{within-limits}

@@ -1,5 +1,4 @@
 -- The goals of `notes_sound` that need a hand.
-use Prim.Native.Nat.{◌-◌}
 use native.Mathlib.Omega.{arith}
 use mathlib.Core.Path.{refl, sym, ◌∙◌}
 use Rattle.layout.proofs.BooleanLaws.{test_fails, test_holds, chain_stops, chain_goes_on}

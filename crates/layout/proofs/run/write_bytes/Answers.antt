@@ -2,7 +2,7 @@
 use Prim.Native.Nat.{◌+◌, ◌≤◌}
 use native.Mathlib.Omega.{arith}
 use mathlib.Core.Path.{refl}
-use lib.ListN.{length, length-take, length-drop}
+use lib.ListN.{length}
 use Rattle.layout.proofs.RangeLaws.{range_holds}
 use Rattle.layout.proofs.ByteLaws.{write-refused}
 use Rattle.layout.proofs.RunLaws.{copied}

@@ -6,7 +6,7 @@ use Rattle.layout.proofs.ByteLaws.{patch_nil, write-within, write-refused}
 use Rattle.layout.proofs.RunLaws.{zero_more}
 use native.Mathlib.Omega.{arith}
 use mathlib.Core.Path.{◌≡◌, refl, sym, ap, ◌∙◌}
-use Prim.Native.Nat.{ℕ, ◌+◌, ◌-◌}
+use Prim.Native.Nat.{ℕ, ◌+◌}
 use lib.ListN.{length, set, length-set, replicate, length-replicate}
 use Rattle.layout.proofs.run.zero_fill.Goals as goal
 

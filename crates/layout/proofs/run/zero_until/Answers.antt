@@ -1,5 +1,4 @@
 -- The goals of `zero_until` that need a hand.
-use Prim.Native.Nat.{◌-◌}
 use native.Mathlib.Omega.{arith}
 use mathlib.Core.Path.{refl, ◌∙◌}
 use lib.ListN.{get_or}

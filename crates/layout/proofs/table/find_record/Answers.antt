@@ -3,7 +3,7 @@ use native.Mathlib.Nat.{mul-le-mul_right}
 use Rattle.layout.proofs.TableLaws.{found_none, found_here, found_later, found_all, record-before}
 use native.Mathlib.Omega.{arith}
 use mathlib.Core.Path.{refl}
-use Prim.Native.Nat.{◌+◌, ◌-◌, ◌*◌, ◌≤◌}
+use Prim.Native.Nat.{◌+◌, ◌*◌, ◌≤◌}
 use Rattle.layout.proofs.table.find_record.Goals as goal
 
 pub overflow_mul-at : goal.overflow_mul-at

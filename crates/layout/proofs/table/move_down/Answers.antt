@@ -5,7 +5,7 @@ use Rattle.layout.proofs.ByteLaws.{patch_nil, bytes_at_none}
 use Rattle.layout.proofs.RunLaws.{move_more}
 use native.Mathlib.Omega.{arith}
 use mathlib.Core.Path.{◌≡◌, refl, sym, ap, ◌∙◌}
-use Prim.Native.Nat.{ℕ, ◌+◌, ◌-◌}
+use Prim.Native.Nat.{ℕ, ◌+◌}
 use lib.ListN.{get_or, set, length-set}
 use Rattle.layout.proofs.table.move_down.Goals as goal
 

@@ -1,5 +1,5 @@
 -- The goals of `write_staff_list` that need a hand.
-use Prim.Native.Nat.{ℕ, ◌+◌, ◌-◌, ◌*◌, ◌≤◌}
+use Prim.Native.Nat.{ℕ, ◌+◌, ◌*◌, ◌≤◌}
 use native.Mathlib.Omega.{arith}
 use mathlib.Core.Path.{◌≡◌, sym, ◌∙◌}
 use lib.ListN.{length}
@@ -72,12 +72,12 @@ pub loop-j-preserved : goal.loop-j-preserved
 loop-j-preserved c =
     let w = c.loop-j.invariant.1 in (
       omega arith,
-      elim c.if-has_bit.branch
-          [ then-has_bit m ↦
-              number_set w (omega arith) c.loop-j-test.true (sym c.has_bit.ensures ∙ m.if-has_bit.true) m.read_u32.ensures
-              (m.out-is ∙ m.write_u32.ensures) m.at-is
-          | else-has_bit m ↦ number_unset w (sym c.has_bit.ensures ∙ m.if-has_bit.false) m.out-is m.at-is
-          ],
+      elim c.if-has_bit.branch [
+        | then-has_bit m ↦
+            number_set w (omega arith) c.loop-j-test.true (sym c.has_bit.ensures ∙ m.if-has_bit.true) m.read_u32.ensures
+            (m.out-is ∙ m.write_u32.ensures) m.at-is
+        | else-has_bit m ↦ number_unset w (sym c.has_bit.ensures ∙ m.if-has_bit.false) m.out-is m.at-is
+      ],
     )
 
 pub overflow_sub-result : goal.overflow_sub-result

@@ -21,10 +21,10 @@ returns c =
     let truth = c.is_admin.ensures in
     let byte : Bool → ℕ = λ t. cond t 1 0 in
     let x : c.if-is_admin.x ≡ byte (is_admin (decode c.args.b.now) c.args.login.user) =
-    elim c.if-is_admin.branch
-        [ then-is_admin w ↦ w.x-is ∙ ap byte (sym w.if-is_admin.true ∙ truth)
-        | else-is_admin w ↦ w.x-is ∙ ap byte (sym w.if-is_admin.false ∙ truth)
-        ]
+    elim c.if-is_admin.branch [
+      | then-is_admin w ↦ w.x-is ∙ ap byte (sym w.if-is_admin.true ∙ truth)
+      | else-is_admin w ↦ w.x-is ∙ ap byte (sym w.if-is_admin.false ∙ truth)
+    ]
     in
     query-answered _ _ _ _ refl c.login_refusal-number.ensures c.if-number-ne0.false c.write_byte-len.ensures
     (ap (λ (n : ℕ). n ∷ []) x)
