@@ -2,11 +2,10 @@
 #![tactic(auto)]
 
 use journal_io::{JOURNAL_SIZE, print_journal};
-use libc::STDIN_FILENO;
 use report::REPORT_LIMIT;
 
-fn main() {
+fn main(rt: HostRuntime) {
     let mut journal = [0u8; JOURNAL_SIZE];
     let mut text = [0u8; REPORT_LIMIT];
-    print_journal(STDIN_FILENO, &mut journal, &mut text);
+    print_journal(&rt, &mut rt.stdin(), &mut journal, &mut text);
 }
