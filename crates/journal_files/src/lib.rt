@@ -3,9 +3,12 @@
 
 use board::BOARD_SIZE;
 use journal_io::{JOURNAL_SIZE, Reading, print_journal, print_text, read_journal};
-use libc::STDOUT_FILENO;
 use replay::replay;
 use report::{JOURNAL_LIMIT, REPORT_LIMIT};
+use std::env::{Env, FillError};
+use std::io::Read;
+use std::rt::Files;
+use std::{fs, str};
 use transcript::answer_lines;
 
 // The answers of a replay, and room for their lines.
@@ -14,14 +17,14 @@ const ANSWERS_SIZE: usize = 4096;
 const LINES_SIZE: usize = 3 * ANSWERS_SIZE;
 
 // What is printed for a journal: a line for each message, or for each answer.
-#[derive(Drop)]
+#[derive(Clone, Copy)]
 pub enum Form {
     Lines,
     Answers,
 }
 
 // The lines of the answers to a journal's messages from the empty board, for as many at a time as the answer buffer has room for.
-fn print_parts(journal: &[u8]) {
+fn print_parts(rt: &(impl Print + Eprint), journal: &[u8]) {
     let mut board = [0; BOARD_SIZE];
     let mut answers = [0; ANSWERS_SIZE];
     let mut text = [0; LINES_SIZE];
@@ -31,7 +34,7 @@ fn print_parts(journal: &[u8]) {
         let messages = done.messages;
         let passed = done.passed;
         let report = answer_lines(&answers, messages, &mut text);
-        print_text(report, &text);
+        print_text(rt, report, &text);
         // no message begins here
         if passed == 0 {
             return;
@@ -42,53 +45,69 @@ fn print_parts(journal: &[u8]) {
 
 // Reads a journal and prints the lines of its answers, `long` where it has more bytes than a journal may have, or nothing where it could not be
 // read whole; what failed is said on standard error.
-fn print_answers(fd: i32, journal: &mut [u8]) {
-    let reading = read_journal(fd, journal);
+fn print_answers<R: Read>(rt: &(impl Print + Eprint), reader: &mut R, journal: &mut [u8]) {
+    let reading = read_journal(rt, reader, journal);
     match reading {
         Reading::Read(size) => {
             if JOURNAL_LIMIT < size {
-                io::write_all(STDOUT_FILENO, b"long\n");
+                let _ = rt.write_all(b"long\n");
                 return;
             }
-            print_parts(&journal[..size]);
+            print_parts(rt, &journal[..size]);
         }
         Reading::Failed => {}
     }
 }
 
-fn print_form(form: Form, fd: i32, journal: &mut [u8], text: &mut [u8]) {
+fn print_form<R: Read>(
+    rt: &(impl Print + Eprint),
+    form: Form,
+    reader: &mut R,
+    journal: &mut [u8],
+    text: &mut [u8],
+) {
     match form {
         Form::Lines => {
-            print_journal(fd, journal, text);
+            print_journal(rt, reader, journal, text);
         }
-        Form::Answers => {
-            print_answers(fd, journal);
-        }
+        Form::Answers => print_answers(rt, reader, journal),
     }
 }
 
-fn print_file(form: Form, name: &[u8], journal: &mut [u8], text: &mut [u8]) {
-    io::write_all(STDOUT_FILENO, name);
-    io::write_all(STDOUT_FILENO, b"\n");
-    let fd = os::open_read(name);
-    if fd < 0 {
-        os::fail(name);
+fn print_file(
+    rt: &(impl Files + Print + Eprint),
+    form: Form,
+    name: &[u8],
+    journal: &mut [u8],
+    text: &mut [u8],
+) {
+    let _ = rt.write_all(name);
+    let _ = rt.write_all(b"\n");
+    // `fs::open` takes text alone
+    let Ok(path) = str::from_utf8(name) else {
+        let _ = rt.eprint("the name is not UTF-8\n");
         return;
+    };
+    match fs::open(rt, path) {
+        Ok(mut file) => print_form(rt, form, &mut file, journal, text),
+        Err(error) => {
+            let _ = eprintln!(rt; "{path}: {error}");
+        }
     }
-    print_form(form, fd, journal, text);
-    libc::close(fd);
 }
 
 // Prints each journal that the arguments name. The buffers are lent on, so that each is made once.
-pub fn print_files(form: Form) {
+pub fn print_files(rt: &(impl Env + Files + Print + Eprint), form: Form) {
     let mut name = [0u8; 256];
     let mut journal = [0u8; JOURNAL_SIZE];
     let mut text = [0u8; REPORT_LIMIT];
-    let count = os::arg_count();
-    let mut i = 1;
-    while i < count {
-        let len = os::arg(i, &mut name);
-        print_file(form, &name[..len], &mut journal, &mut text);
-        i += 1;
+    for i in 1..usize::MAX {
+        let len = match rt.arg(i, &mut name) {
+            Ok(len) => len,
+            // no file has the empty name
+            Err(FillError::TooLong) => 0,
+            Err(FillError::NotPresent) => return,
+        };
+        print_file(rt, form, &name[..len], &mut journal, &mut text);
     }
 }

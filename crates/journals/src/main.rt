@@ -3,6 +3,6 @@
 
 use journal_files::{Form, print_files};
 
-fn main() {
-    print_files(Form::Lines);
+fn main(rt: HostRuntime) {
+    print_files(&rt, Form::Lines);
 }
