@@ -3,7 +3,7 @@
 
 ghost use Rattle.std.specs.Prelude.{◌≡◌, ◌≤◌, length};
 ghost use Rattle.report.specs.Results.{written_size, report_result};
-ghost use Rattle.journal_io.specs.Results.{size_read, text_after};
+ghost use Rattle.journal_io.specs.Results.{HasRead, size_read, text_after};
 
 use report::{JOURNAL_LIMIT, Report, lines};
 use std::io::Read;
@@ -25,7 +25,7 @@ fn complain(rt: &impl Eprint, text: &str) {
 
 // Says on standard error that a journal could not be read whole.
 fn failed(rt: &impl Eprint) -> Reading
-    ensures { size_read result ≡ 0 }
+    ensures { result ≡ Reading.Failed }
 {
     complain(rt, "the journal could not be read whole\n");
     Reading::Failed
@@ -34,7 +34,8 @@ fn failed(rt: &impl Eprint) -> Reading
 // Reads to the end of the input, or until the buffer is full. One that is full and has no more bytes than a journal may have is too short to tell
 // whether the journal is whole.
 pub fn read_journal<R: Read>(rt: &impl Eprint, reader: &mut R, journal: &mut [u8]) -> Reading
-    ensures { size_read result ≤ length journal.new }
+    ensures in_bounds { size_read result ≤ length journal.new }
+    ensures bytes { HasRead result (R.remaining reader.old) (R.remaining reader.new) journal.new }
 {
     let size = journal.len();
     let mut done = 0;
@@ -81,6 +82,7 @@ pub fn print_journal<R: Read>(
     text: &mut [u8],
 ) -> Reading
     ensures result_in_bounds { size_read result ≤ length journal.new }
+    ensures bytes { HasRead result (R.remaining reader.old) (R.remaining reader.new) journal.new }
     ensures text_after { text.new ≡ text_after result journal.new text.old }
 {
     let reading = read_journal(rt, reader, journal);
