@@ -12,7 +12,7 @@ use std::io::Read;
 pub const JOURNAL_SIZE: usize = JOURNAL_LIMIT + 1;
 
 // How many bytes were read, a whole journal or more than one may have, or that a journal could not be read whole.
-#[derive(Drop)]
+#[derive(Clone, Copy)]
 pub enum Reading {
     Read(usize),
     Failed,

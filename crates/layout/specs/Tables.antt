@@ -7,7 +7,7 @@ use Rattle.layout.specs.Numbers.{from_le_bytes}
 unfoldable pub record_number : List ℕ → ℕ
 record_number r = from_le_bytes (take 4 r)
 
--- the numbers of n records of `size` bytes from `at` on; a search is the library's `index_of` in them
+-- the numbers of n records of `size` bytes from `at` on; a search is `index_of` of `Search` in them
 unfoldable pub record_numbers : List ℕ → ℕ → ℕ → ℕ → List ℕ
 record_numbers b at size zero = []
 record_numbers b at size (suc n) = from_le_bytes (bytes_at b at 4) ∷ record_numbers b (at + size) size n

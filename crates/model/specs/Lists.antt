@@ -16,7 +16,7 @@ unfoldable pub all_below : ℕ → (ℕ → Bool) → Bool
 all_below zero p = true
 all_below (suc n) p = all_below n p && p n
 
--- x is in the list; its place is the library's `index_of`
+-- x is in the list; its place is `index_of` of layout's `Search`
 unfoldable pub contains : ℕ → List ℕ → Bool
 contains x xs = ltb (index_of x xs) (length xs)
 
