@@ -2,7 +2,12 @@
 #![tactic(auto)]
 
 use journal_files::{Form, print_files};
+use std::process::ExitCode;
 
-fn main(rt: HostRuntime) {
-    print_files(&rt, Form::Answers);
+fn main(rt: HostRuntime) -> ExitCode {
+    if print_files(&rt, Form::Answers) {
+        ExitCode::SUCCESS
+    } else {
+        ExitCode::FAILURE
+    }
 }

@@ -24,7 +24,8 @@ pub enum Form {
 }
 
 // The lines of the answers to a journal's messages from the empty board, for as many at a time as the answer buffer has room for.
-fn print_parts(rt: &(impl Print + Eprint), journal: &[u8]) {
+// False where a write failed, after which nothing more is written; so with the other functions here.
+fn print_parts(rt: &(impl Print + Eprint), journal: &[u8]) -> bool {
     let mut board = [0; BOARD_SIZE];
     let mut answers = [0; ANSWERS_SIZE];
     let mut text = [0; LINES_SIZE];
@@ -34,28 +35,30 @@ fn print_parts(rt: &(impl Print + Eprint), journal: &[u8]) {
         let messages = done.messages;
         let passed = done.passed;
         let report = answer_lines(&answers, messages, &mut text);
-        print_text(rt, report, &text);
+        if !print_text(rt, report, &text) {
+            return false;
+        }
         // no message begins here
         if passed == 0 {
-            return;
+            return true;
         }
         place += passed;
     }
+    true
 }
 
 // Reads a journal and prints the lines of its answers, `long` where it has more bytes than a journal may have, or nothing where it could not be
 // read whole; what failed is said on standard error.
-fn print_answers<R: Read>(rt: &(impl Print + Eprint), reader: &mut R, journal: &mut [u8]) {
+fn print_answers<R: Read>(rt: &(impl Print + Eprint), reader: &mut R, journal: &mut [u8]) -> bool {
     let reading = read_journal(rt, reader, journal);
     match reading {
         Reading::Read(size) => {
             if JOURNAL_LIMIT < size {
-                let _ = rt.write_all(b"long\n");
-                return;
+                return rt.write_all(b"long\n").is_ok();
             }
-            print_parts(rt, &journal[..size]);
+            print_parts(rt, &journal[..size])
         }
-        Reading::Failed => {}
+        Reading::Failed => true,
     }
 }
 
@@ -65,13 +68,15 @@ fn print_form<R: Read>(
     reader: &mut R,
     journal: &mut [u8],
     text: &mut [u8],
-) {
+) -> bool {
     match form {
-        Form::Lines => {
-            print_journal(rt, reader, journal, text);
-        }
+        Form::Lines => print_journal(rt, reader, journal, text).is_written,
         Form::Answers => print_answers(rt, reader, journal),
     }
+}
+
+fn print_name(rt: &impl Print, name: &[u8]) -> bool {
+    rt.write_all(name).is_ok() && rt.write_all(b"\n").is_ok()
 }
 
 fn print_file(
@@ -80,24 +85,26 @@ fn print_file(
     name: &[u8],
     journal: &mut [u8],
     text: &mut [u8],
-) {
-    let _ = rt.write_all(name);
-    let _ = rt.write_all(b"\n");
+) -> bool {
+    if !print_name(rt, name) {
+        return false;
+    }
     // `fs::open` takes text alone
     let Ok(path) = str::from_utf8(name) else {
         let _ = rt.eprint("the name is not UTF-8\n");
-        return;
+        return true;
     };
     match fs::open(rt, path) {
         Ok(mut file) => print_form(rt, form, &mut file, journal, text),
         Err(error) => {
             let _ = eprintln!(rt; "{path}: {error}");
+            true
         }
     }
 }
 
 // Prints each journal that the arguments name. The buffers are lent on, so that each is made once.
-pub fn print_files(rt: &(impl Env + Files + Print + Eprint), form: Form) {
+pub fn print_files(rt: &(impl Env + Files + Print + Eprint), form: Form) -> bool {
     let mut name = [0u8; 256];
     let mut journal = [0u8; JOURNAL_SIZE];
     let mut text = [0u8; REPORT_LIMIT];
@@ -106,8 +113,11 @@ pub fn print_files(rt: &(impl Env + Files + Print + Eprint), form: Form) {
             Ok(len) => len,
             // no file has the empty name
             Err(FillError::TooLong) => 0,
-            Err(FillError::NotPresent) => return,
+            Err(FillError::NotPresent) => return true,
         };
-        print_file(rt, form, &name[..len], &mut journal, &mut text);
+        if !print_file(rt, form, &name[..len], &mut journal, &mut text) {
+            return false;
+        }
     }
+    true
 }

@@ -18,6 +18,13 @@ pub enum Reading {
     Failed,
 }
 
+// How a journal was read, and whether standard output took all of its lines.
+#[derive(Clone, Copy)]
+pub struct Printed {
+    pub reading: Reading,
+    pub is_written: bool,
+}
+
 // Says on standard error what failed. Where even that can't be written, nobody is left to be told.
 fn complain(rt: &impl Eprint, text: &str) {
     let _ = rt.eprint(text);
@@ -52,26 +59,31 @@ pub fn read_journal<R: Read>(rt: &impl Eprint, reader: &mut R, journal: &mut [u8
     Reading::Read(size)
 }
 
-// Writes a text to standard output; what failed is said on standard error.
-pub fn print_text(rt: &(impl Print + Eprint), report: Report, text: &[u8])
+// Writes a text to standard output; what failed is said on standard error. False where a write failed.
+pub fn print_text(rt: &(impl Print + Eprint), report: Report, text: &[u8]) -> bool
     requires { written_size report ≤ length text.now }
 {
     match report {
         Report::Written(size) => {
-            if rt.write_all(&text[..size]).is_err() {
+            let is_written = rt.write_all(&text[..size]).is_ok();
+            if !is_written {
                 complain(rt, "the lines could not be written\n");
             }
+            is_written
         }
-        Report::TooShort => complain(rt, "the text buffer is too short\n"),
+        Report::TooShort => {
+            complain(rt, "the text buffer is too short\n");
+            true
+        }
     }
 }
 
-// Writes the text for a journal to standard output.
-fn print_lines(rt: &(impl Print + Eprint), journal: &[u8], text: &mut [u8])
+// Writes the text for a journal to standard output. False where a write failed.
+fn print_lines(rt: &(impl Print + Eprint), journal: &[u8], text: &mut [u8]) -> bool
     ensures { text.new ≡ (report_result journal.now text.old).text }
 {
     let report = lines(journal, text);
-    print_text(rt, report, text);
+    print_text(rt, report, text)
 }
 
 // Reads a journal and prints its lines, or none where it could not be read whole; what failed is said on standard error.
@@ -80,17 +92,20 @@ pub fn print_journal<R: Read>(
     reader: &mut R,
     journal: &mut [u8],
     text: &mut [u8],
-) -> Reading
-    ensures result_in_bounds { size_read result ≤ length journal.new }
-    ensures bytes { HasRead result (R.remaining reader.old) (R.remaining reader.new) journal.new }
-    ensures text_after { text.new ≡ text_after result journal.new text.old }
+) -> Printed
+    ensures result_in_bounds { size_read result.reading ≤ length journal.new }
+    ensures bytes { HasRead result.reading (R.remaining reader.old) (R.remaining reader.new) journal.new }
+    ensures text_after { text.new ≡ text_after result.reading journal.new text.old }
 {
     let reading = read_journal(rt, reader, journal);
     match reading {
-        Reading::Read(size) => {
-            print_lines(rt, &journal[..size], text);
-            Reading::Read(size)
-        }
-        Reading::Failed => Reading::Failed,
+        Reading::Read(size) => Printed {
+            reading: Reading::Read(size),
+            is_written: print_lines(rt, &journal[..size], text),
+        },
+        Reading::Failed => Printed {
+            reading: Reading::Failed,
+            is_written: true,
+        },
     }
 }

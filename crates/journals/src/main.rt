@@ -2,7 +2,12 @@
 #![tactic(auto)]
 
 use journal_files::{Form, print_files};
+use std::process::ExitCode;
 
-fn main(rt: HostRuntime) {
-    print_files(&rt, Form::Lines);
+fn main(rt: HostRuntime) -> ExitCode {
+    if print_files(&rt, Form::Lines) {
+        ExitCode::SUCCESS
+    } else {
+        ExitCode::FAILURE
+    }
 }
