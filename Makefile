@@ -10,12 +10,11 @@ DOC = $(DESTDIR)$(PREFIX)/share/doc/staff_board
 
 .PHONY: build check install uninstall clean
 
-# Proves the kernel and the program, which takes four to eight minutes from nothing.
+# Proves the kernel, and builds the program and the archive.
 build:
-	rt check staff_board
-	rt staticlib abi
+	tools/build
 
-# The gate, which removes target/ first, then the tests in Rust, which build the archive again.
+# The gate, then the tests in Rust, which build the program and the archive first.
 check:
 	.ci/run
 	rust/check
@@ -36,5 +35,6 @@ target/bin/staff_board target/staticlib/libabi.a:
 uninstall:
 	rm -f $(BIN)/staff_board $(INCLUDE)/staff_board.h $(LIB)/libstaff_board.a $(LIB)/pkgconfig/staff_board.pc $(DOC)/FORMAT.md
 
+# What the toolchain keeps of the proofs lies in out/ of each crate.
 clean:
-	rm -rf target rust/target
+	rm -rf target rust/target crates/*/out

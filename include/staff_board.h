@@ -1,5 +1,5 @@
 /* The staff board kernel, for C99 and later and for C++, on x86-64 Linux. Link libstaff_board.a, which `make install` installs (pkg-config staff_board), or
-   target/staticlib/libabi.a, which `rt staticlib abi` writes; they are the same. Messages, answers, boards and the numbers that are returned are those of
+   target/staticlib/libabi.a, which `tools/build` writes; they are the same. Messages, answers, boards and the numbers that are returned are those of
    docs/FORMAT.md.
 
    Who owns what: every buffer is the caller's. A call reads and writes the bytes that it is lent, keeps no address after it has returned, and

@@ -1,5 +1,5 @@
 //! Links the kernel's archive: `libstaff_board.a` or `libabi.a` in the folder that STAFF_BOARD_LIB_DIR names, else in `target/staticlib` at the top of the
-//! repository, where `rt staticlib abi` writes `libabi.a`. Without an archive there is a warning and nothing to link, so that documents and lints can still be made.
+//! repository, where `tools/build` writes `libabi.a`. Without an archive there is a warning and nothing to link, so that documents and lints can still be made.
 use std::env;
 use std::path::{Path, PathBuf};
 
@@ -17,7 +17,7 @@ fn main() {
             // a watched file that is missing makes cargo run this again at each build, until there is an archive
             println!("cargo:rerun-if-changed={}", folder.join("libabi.a").display());
             println!(
-                "cargo:warning=no archive in {}: run `rt staticlib abi` at the top of the repository, or set STAFF_BOARD_LIB_DIR",
+                "cargo:warning=no archive in {}: run `tools/build` at the top of the repository, or set STAFF_BOARD_LIB_DIR",
                 folder.display()
             );
         }

@@ -31,7 +31,7 @@ fn files(folder: &Path, found: &mut Vec<PathBuf>) {
     for entry in std::fs::read_dir(folder).expect("a folder") {
         let path = entry.expect("an entry").path();
         let name = path.file_name().expect("a name").to_string_lossy().into_owned();
-        if path.is_dir() && name != "target" && name != ".git" {
+        if path.is_dir() && !["target", "out", ".git"].contains(&&name[..]) {
             files(&path, found);
         } else if path.is_file() {
             found.push(path);
