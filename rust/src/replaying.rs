@@ -75,7 +75,7 @@ const PART: usize = 16_384;
 
 /// The messages of a journal on a board, with their answers one after the other in `answers`; bytes after them keep their contents. It stops with
 /// [`Stop::BufferShort`] where fewer than 518 bytes are left; [`ANSWER_LIMIT`] bytes for each message are always enough. Journals of any length can be replayed: after a stop for want of room the kernel goes on at that place with the next part of the buffer. Of one such resumption it is
-/// proved that both replays together show the whole run (`replay-resumed`, `resumed-complete` in `crates/model/proofs/ReplayTheorems.antt`); that
+/// proved that both replays together show the whole run (`replay_resumed`, `resumed-complete` in `crates/model/proofs/ReplayTheorems.antt`); that
 /// this loop does so is tested.
 pub fn replay(journal: &[u8], board: &mut [u8], answers: &mut [u8]) -> Replayed {
     let (mut messages, mut passed, mut written) = (0, 0, 0);
