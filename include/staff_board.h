@@ -1,6 +1,6 @@
-/* The staff board kernel, for C99 and later and for C++, on x86-64 Linux. Link libstaff_board.a, which `make install` installs (pkg-config staff_board), or
-   target/staticlib/libabi.a, which `tools/build` writes; they are the same. Messages, answers, boards and the numbers that are returned are those of
-   docs/FORMAT.md.
+/* The staff board kernel, for C99 and later and for C++, on x86-64 Linux (processors of the level x86-64-v2). Link libstaff_board.a, which `make install`
+   installs (pkg-config staff_board), or target/staticlib/libabi.a, which `tools/build` writes; they are the same. Messages, answers, boards and the
+   numbers that are returned are those of docs/FORMAT.md.
 
    Who owns what: every buffer is the caller's. A call reads and writes the bytes that it is lent, keeps no address after it has returned, and
    allocates nothing.
@@ -8,7 +8,7 @@
    null, even at length 0, and as many bytes or values as the length says can be read from it on, and written where it is not const. No buffer
    that a call writes overlaps with another of its buffers.
    Threads: the kernel has no state of its own. Calls may run at the same time as long as no buffer that one of them writes is lent to another.
-   Stack: staff_board_replay nests a call for each message, which takes 192 bytes of stack, 3 MB for 15,000 messages. For threads with a small stack there is
+   Stack: staff_board_replay nests a call for each message, which takes 128 bytes of stack, 2 MB for 15,000 messages. For threads with a small stack there is
     staff_board_replay_in_parts, below, which takes less than 1 MB whatever the journal. */
 #ifndef STAFF_BOARD_H
 #define STAFF_BOARD_H

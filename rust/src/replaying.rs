@@ -69,7 +69,7 @@ pub struct Replayed {
     pub written: usize,
 }
 
-/// The most bytes of an answer buffer that the kernel is lent at once. Its replay nests a call for each message, some 200 bytes of stack; an answer has
+/// The most bytes of an answer buffer that the kernel is lent at once. Its replay nests a call for each message, some 130 bytes of stack; an answer has
 /// four bytes at least, so there are never more than 4,096 of them.
 const PART: usize = 16_384;
 

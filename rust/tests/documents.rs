@@ -20,7 +20,16 @@ const ROOTS: [&str; 5] = ["", "crates", "docs", "rust", "rust/tests"];
 const ENDINGS: [&str; 5] = ["", ".antt", ".rt", ".rs", ".edit"];
 
 /// Packages, a function of the toolchain's library and words that `rt` prints: none is defined here.
-const ELSEWHERE: [&str; 6] = ["xxd", "libsqlite3-dev", "read_full", "axioms", "logic-built", "trusted"];
+const ELSEWHERE: [&str; 8] = [
+    "xxd",
+    "libsqlite3-dev",
+    "read_to_end",
+    "axioms",
+    "logic-built",
+    "libraries-built",
+    "trusted",
+    "overflow_shr-result",
+];
 
 fn top() -> PathBuf {
     Path::new(env!("CARGO_MANIFEST_DIR")).join("..")
