@@ -1,5 +1,5 @@
 //! The program `staff_board` and the system around it: pipes in pieces, outputs that are closed or full, an input that cannot be read. Its exit
-//! status is always 0, so what is printed where is all that a script can test.
+//! status is 1 where its lines could not be written; what is printed where is all else that a script can test.
 
 mod journals_printed;
 
@@ -79,6 +79,7 @@ fn an_input_that_cannot_be_read_prints_nothing() {
     let output = program().stdin(folder).output().expect("it runs");
     assert_eq!(output.stdout, b"");
     assert_eq!(output.stderr, b"the journal could not be read whole\n");
+    assert_eq!(output.status.code(), Some(0));
 
     // closed by the shell before the program starts
     let closed = Command::new("sh")
@@ -98,10 +99,9 @@ fn a_full_output_is_said_on_standard_error() {
     let full = File::options().write(true).open("/dev/full").expect("/dev/full");
     let mut child = program().stdout(full).spawn().expect("the program");
     feed(&mut child, &journal("listing"), 10);
-    assert_eq!(
-        child.wait_with_output().expect("it ends").stderr,
-        b"the lines could not be written\n"
-    );
+    let output = child.wait_with_output().expect("it ends");
+    assert_eq!(output.stderr, b"the lines could not be written\n");
+    assert_eq!(output.status.code(), Some(1));
 }
 
 /// Where nobody reads the lines any more the program says so and ends, whether or not its caller lets the signal for that, SIGPIPE, end it.
@@ -122,6 +122,6 @@ fn a_closed_output_ends_the_program() {
         feed(&mut child, &journal("week"), 1_000);
         let output = child.wait_with_output().expect("it ends");
         assert_eq!(String::from_utf8_lossy(&output.stderr), "the lines could not be written\n");
-        assert_eq!(output.status.code(), Some(0));
+        assert_eq!(output.status.code(), Some(1));
     }
 }
