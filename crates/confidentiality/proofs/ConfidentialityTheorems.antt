@@ -1,8 +1,8 @@
 -- Demand 3, and what a result with room to its end is:
 --     unwound, confidential  of any step with an unwinding, and of the model's: any set, any post, any two journals
---     equally-many-windows   both journals have equally many closed windows, and openings follow the same ones
---     replay-confidential, replay-windows   both of the replay
---     results-confidential   of two results, as a caller has them
+--     equally_many_windows   both journals have equally many closed windows, and openings follow the same ones
+--     replay_confidential, replay_windows   both of the replay
+--     results_confidential   of two results, as a caller has them
 --     empty-room             518 bytes for each message and 518 more are room to the end
 --     buffer-answers         the bytes written are the answers of the trace, one behind the other
 use Prim.Native.Nat.{ℕ, ◌+◌, ◌*◌, ◌≤◌}

@@ -1,7 +1,7 @@
 -- What the board that a replay leaves and the messages that it did say of each other:
---     journal-closed          a post is closed to a set if and only if no registered member of the set may read it
---     unmade-closed           a post that is not made is closed to every set
---     friendship-accountable, visibility-accountable   a friendship and a public post can be traced back to the messages
+--     journal_closed          a post is closed to a set if and only if no registered member of the set may read it
+--     unmade_closed           a post that is not made is closed to every set
+--     friendship_accountable, visibility_accountable   a friendship and a public post can be traced back to the messages
 use Prim.Native.Nat.{ℕ}
 use mathlib.Core.Path.{◌≡◌, refl, sym, ap, ◌∙◌, subst}
 use mathlib.Core.List.{List, [], ◌∷◌, foldl}

@@ -1,12 +1,12 @@
 -- Kernels as the step but for one leak, of which the claim is false: two journals that meet its hypotheses are told apart.
 -- By 8, who may not read the post:
---     read-leaks      0505 answers the text to every registered user
---     length-leaks    the refusal of 0505 has the length of the text behind it
---     list-leaks      the answer of 0603 has the lengths of the texts behind it
---     count-leaks     .. has the number of text updates behind it
+--     read_leaks      0505 answers the text to every registered user
+--     length_leaks    the refusal of 0505 has the length of the text behind it
+--     list_leaks      the answer of 0603 has the lengths of the texts behind it
+--     count_leaks     .. has the number of text updates behind it
 -- By 7, who may read the post since an opening, though the last text before it is the same:
---     older-leaks     the answer of 0505 has the text before the last update behind it
---     edits-leaks     .. has the number of updates of that text behind it
+--     older_leaks     the answer of 0505 has the text before the last update behind it
+--     edits_leaks     .. has the number of updates of that text behind it
 use Prim.Native.Nat.{ℕ, suc}
 use mathlib.Core.Path.{refl}
 use mathlib.Core.List.{List, [], ◌++◌, map, flatten}

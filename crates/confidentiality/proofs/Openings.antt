@@ -1,19 +1,19 @@
 -- Pairs of journals that meet all hypotheses of the claim, with updates purged, openings and texts that are read.
 -- Of any such pair, by the theorem:
 --     same-observed       the set observes the same of both runs
---     replays-observed    .. and of both replays, in any buffers with room
+--     replays_observed    .. and of both replays, in any buffers with room
 -- With one opening, for the set {7}:
---     opened-differ, opened-agree   the hypotheses hold
---     opened-windows                the opening in each, its kind, and the last text before it
---     opened-observed               what the set observes of the runs
---     opened-replayed               .. and of the replays
+--     opened_differ, opened_agree   the hypotheses hold
+--     opened_windows                the opening in each, its kind, and the last text before it
+--     opened_observed               what the set observes of the runs
+--     opened_replayed               .. and of the replays
 -- With openings by 0203, 0205 and 0405 for the set {7}, and by 0202 for the set {8}:
---     ways-refused                  which messages are refused, and the bytes behind the frames
---     ways-differ, ways-agree       the hypotheses hold
---     ways-windows                  the openings in each, their kinds, and the last texts before them
---     ways-observed-7, ways-observed-8   what each set observes of the run of the second journal
---     ways-same                     .. and of that of the first
---     ways-replayed                 .. and of the replays
+--     ways_refused                  which messages are refused, and the bytes behind the frames
+--     ways_differ, ways_agree       the hypotheses hold
+--     ways_windows                  the openings in each, their kinds, and the last texts before them
+--     ways_observed_7, ways_observed_8   what each set observes of the run of the second journal
+--     ways_same                     .. and of that of the first
+--     ways_replayed                 .. and of the replays
 use Prim.Native.Nat.{ℕ, ◌+◌, ◌*◌, ◌≤◌}
 use mathlib.Core.Path.{◌≡◌, refl, sym, ap, ◌∙◌}
 use mathlib.Core.List.{List, [], ◌∷◌, ◌++◌, map, flatten}

@@ -1,8 +1,8 @@
 -- The step does not depend on the text of a post, but for the 0505 that reads it. On any state:
---     redact-number, redact-state, redact-answer   with the text emptied the step gives the same number, the same state but for the text,
+--     redact_number, redact-state, redact-answer   with the text emptied the step gives the same number, the same state but for the text,
 --                                                  and the same answer, unless it is the text
---     text-updated, text-kept                      an accepted update changes the text and nothing else; no other action changes the text
---     redact-restores                              the text and the state with the text emptied determine the state
+--     text_updated, text_kept                      an accepted update changes the text and nothing else; no other action changes the text
+--     redact_restores                              the text and the state with the text emptied determine the state
 use Prim.Native.Nat.{ℕ, zero, suc, ◌≤◌}
 use mathlib.Core.Path.{◌≡◌, refl, sym, ap, ap₂, ◌∙◌}
 use mathlib.Core.List.{List, [], ◌∷◌, ◌++◌, map, map-append, flatten}

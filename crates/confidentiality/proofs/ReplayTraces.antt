@@ -1,7 +1,7 @@
 -- The trace of a replay and the trace of the run:
 --     answer-accepted                  an answer of the step states number 0 where it accepts the message
---     trace-events, board-done         wherever a replay stopped, its events are those of the messages it did, and so is its board
---     valid-trace, replay-trace        with room to its end its trace is that of the run: from the board of a valid state, and from the
+--     trace_events, board-done         wherever a replay stopped, its events are those of the messages it did, and so is its board
+--     valid_trace, replay_trace_lem    with room to its end its trace is that of the run: from the board of a valid state, and from the
 --                                      empty board
 use Prim.Native.Nat.{ℕ, zero, suc, ◌+◌}
 use native.Mathlib.Omega.{arith}

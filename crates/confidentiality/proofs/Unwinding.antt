@@ -5,7 +5,7 @@
 --     Unwinding         the conditions
 --     unwinding         the theorem: the set sees the same in both journals
 --     same-windows      both journals have equally many windows, with the same openings
---     nothing-compared  where no frame is compared, nothing is
+--     nothing_compared  where no frame is compared, nothing is
 use Prim.Native.Nat.{ℕ}
 use mathlib.Core.Path.{◌≡◌, refl, sym, ap, ◌∙◌}
 use mathlib.Core.List.{List, [], ◌∷◌, ◌++◌, map, foldl, foldl-append, append-nil}

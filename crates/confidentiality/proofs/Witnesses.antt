@@ -1,25 +1,25 @@
 -- Journals on which the claim is computed, from the empty state. 7 is the admin and 9 owns post 50; the set is {7} unless said otherwise.
 -- Openings has pairs that meet all hypotheses. These break one alone, and the set tells them apart:
---     last-texts-needed       the last texts before an opening are the same
---     both-or-neither-needed  .. and both journals have an update before it or neither has
---     common-last-texts, all-updates-needed   .. of all updates of the window, not of the purged ones only
---     refused-last-texts, accepted-updates-needed   .. of accepted updates only
---     friends-needed          a purged update is met while nobody of the set is a friend of the owner
---     owner-needed            .. nobody of the set is the owner
---     visibility-needed       .. the post is not public
---     number-needed           a purged update has the number of the post
---     kind-needed             .. is a 0403
---     accepted-needed         .. is accepted
---     bytes-needed            the same bytes remain
---     room-needed             the replays have room to their ends (one journal, two buffers)
---     open-told-apart, empty-board-needed   the runs begin at the empty state, not at one in which the post is open
---     left-board-told-apart   .. the replays on the empty board, not on the board that another replay left
+--     last_texts_needed       the last texts before an opening are the same
+--     both_or_neither_needed  .. and both journals have an update before it or neither has
+--     common_last_texts, all_updates_needed   .. of all updates of the window, not of the purged ones only
+--     refused_last_texts, accepted-updates_needed   .. of accepted updates only
+--     friends_needed          a purged update is met while nobody of the set is a friend of the owner
+--     owner_needed            .. nobody of the set is the owner
+--     visibility_needed       .. the post is not public
+--     number_needed           a purged update has the number of the post
+--     kind_needed             .. is a 0403
+--     accepted_needed         .. is accepted
+--     bytes_needed            the same bytes remain
+--     room_needed             the replays have room to their ends (one journal, two buffers)
+--     open_told_apart, empty-board_needed   the runs begin at the empty state, not at one in which the post is open
+--     left-board_told_apart   .. the replays on the empty board, not on the board that another replay left
 -- Of any step:
 --     refuted                 the claim is false if a pair meets the hypotheses and is told apart
 -- Values:
---     rest-compared           journals with the same frames and other bytes behind them do not differ only in updates
---     unmarked-remain         where the marks end nothing is purged
---     observed-senders        who sends a message
+--     rest_compared           journals with the same frames and other bytes behind them do not differ only in updates
+--     unmarked_remain         where the marks end nothing is purged
+--     observed_senders        who sends a message
 --     closed-by-owner, closed-by-visibility, registration-opens   to whom a post is closed
 --     window-values           the windows of a journal
 use Prim.Native.Nat.{ℕ, ◌-◌}

@@ -1,9 +1,9 @@
 -- Wrong kernels of "The promises and the table" that get past demand 3: the claim holds of each. model's WrongSteps shows that such kernels
 -- differ from the step, so demand 2 is needed.
---     refuses-all-meets     "a kernel that says 7 to everybody"
---     accepts-all-meets     "one that sends the empty acceptance to everybody"
---     never-changes-meets   "one that never touches the board", with the step's answers on the board it holds, always the empty one
---     unchanging-meets      any kernel that never touches the board, whatever it answers
+--     refuses_all_meets     "a kernel that says 7 to everybody"
+--     accepts_all_meets     "one that sends the empty acceptance to everybody"
+--     never_changes_meets   "one that never touches the board", with the step's answers on the board it holds, always the empty one
+--     unchanging_meets      any kernel that never touches the board, whatever it answers
 -- The first two do each message on the board, as the step does. Kernels with their answers that never touch the board are covered too.
 use Prim.Native.Nat.{ℕ}
 use mathlib.Core.Path.{◌≡◌, refl, sym, ap, ◌∙◌}

@@ -1,7 +1,7 @@
 -- The lengths of answers, and their frames:
 --     answer-short    no answer is longer than 518 bytes; 64 posts reach it (`posts-written` of CaseTheorems)
 --     posts-answer    a list of posts takes 2 bytes and 8 for each post
---     answer-framed   an answer is a frame with the number that the step returns
+--     answer_framed   an answer is a frame with the number that the step returns
 use Prim.Native.Nat.{ℕ, ◌+◌, ◌*◌, ◌≤◌, ◌<◌}
 use native.Mathlib.Nat.{zero-mul, suc-mul}
 use native.Mathlib.Omega.{arith}

@@ -1,9 +1,9 @@
 -- The lettered cases and further cases as tables of journals and messages, with the number and the answer worked out for them from documents
 -- 01 and 02, and document 01's listing. All are computed on states:
---     lettered-computed, regression-computed   each table as one equation
---     causes-computed                          which clause refuses a message
+--     lettered_computed, regression_computed   each table as one equation
+--     causes_computed                          which clause refuses a message
 --     posts-computed                           64 posts make an answer of 518 bytes
---     listing-lines, listing-cut               what the listing's messages get, and where it is cut
+--     listing_lines_lem, listing-cut               what the listing's messages get, and where it is cut
 -- AnswerTable has the whole answers of all queries, CaseTheorems the tables on bytes.
 use Prim.Native.Nat.{ℕ, zero, suc}
 use mathlib.Core.Path.{◌≡◌, refl}

@@ -1,5 +1,5 @@
 -- The tables of CaseTable and AnswerTable about bytes: what `step_of` gives after journals from the empty board.
---     lettered-cases, regression-cases, answer-cases   the rows of each table
+--     lettered_cases_lem, regression_cases_lem, answer-cases   the rows of each table
 --     posts-written                                64 posts make an answer of 518 bytes
 --     own-friends                                  (i) on every state
 --     listing-board                                the listing

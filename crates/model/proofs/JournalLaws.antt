@@ -1,12 +1,12 @@
 -- The frames of a journal and the run of a list of frames.
 --     by_frames                 induction over the frames of a journal
---     frames-none, frames-more  a journal's frames, one step at a time
---     frames-unread, unread-no-frame   the frames and the rest behind them are the journal, and no frame begins that rest
---     all-frames                each of the frames is one whole frame
+--     frames_none, frames-more  a journal's frames, one step at a time
+--     frames-unread, unread_no_frame   the frames and the rest behind them are the journal, and no frame begins that rest
+--     all_frames                each of the frames is one whole frame
 --     frames-size               frames have four bytes each at least
---     frames-first, frames-before      the first k frames stand first in a journal, and their bytes have just these frames
+--     frames_first, frames-before      the first k frames stand first in a journal, and their bytes have just these frames
 --     frames-behind, unread-behind     from behind its first k frames on, a journal has the remaining frames and the same unread rest
---     frames-in-front, frames-flatten  frames one behind the other, with bytes behind them that begin none or without, are the frames found
+--     frames_in_front, frames-flatten  frames one behind the other, with bytes behind them that begin none or without, are the frames found
 --     run_take, run_drop        the run of a list of frames, cut in two
 use Prim.Native.Nat.{ℕ, zero, suc, ◌+◌, ◌*◌, ◌≤◌}
 use native.Mathlib.Nat.{mul-suc}

@@ -1,9 +1,9 @@
 -- The rows of the table of "The answer", 1 to 12:
---     step-number, lowest-number, number-applies   the step returns the lowest number that applies, and none otherwise
+--     step_number, lowest_number, number_applies   the step returns the lowest number that applies, and none otherwise
 --     table-rising    the rows follow the order of the numbers
---     rights-at-ends  which right the kinds at the ends of each range ask for
---     paper-table     for each number from 6 to 12 the kinds whose rows hold it are those of the table of refusals
---     frame-number    a frame is never refused with 1, 2 or 3 on a state
+--     rights_at_ends  which right the kinds at the ends of each range ask for
+--     paper_table     for each number from 6 to 12 the kinds whose rows hold it are those of the table of refusals
+--     frame_number    a frame is never refused with 1, 2 or 3 on a state
 use Prim.Native.Nat.{ℕ, zero, suc, ◌≤◌, ◌<◌, suc-le-suc}
 use native.Mathlib.Nat.{not-suc-le-zero, le_of_suc-le-suc, le_refl, zero-lt-suc}
 use native.Mathlib.Omega.{arith}

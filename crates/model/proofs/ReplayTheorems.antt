@@ -1,18 +1,18 @@
 -- Theorems about the replay. From the board of a valid state it does the messages of the run one by one, while the buffer has room:
---     replay-prefix      what it did and left, wherever it stopped; `result_after` says it of a list of exchanges
---     replay-stops       it stops with 0, 2 or 3
---     replay-complete    the same in one equation, where it did not stop with 2
---     room-enough        with 518 bytes for each message and 518 more it does not stop with 2
---     replay-sound       the board that it leaves is sound
---     replay-resumed, resumed-complete   a second replay of the rest does the remaining messages, and both together show the whole run
---     steps-decide       no step in it returns 1, 2 or 3
---     sound-prefix, sound-complete, replayed-sound   the same from any sound board
+--     replay_prefix      what it did and left, wherever it stopped; `result_after` says it of a list of exchanges
+--     replay_stops       it stops with 0, 2 or 3
+--     replay_complete    the same in one equation, where it did not stop with 2
+--     room_enough        with 518 bytes for each message and 518 more it does not stop with 2
+--     replay_sound       the board that it leaves is sound
+--     replay_resumed, resumed-complete   a second replay of the rest does the remaining messages, and both together show the whole run
+--     steps_decide       no step in it returns 1, 2 or 3
+--     sound_prefix, sound-complete, replayed-sound   the same from any sound board
 --     replayed-valid     the state of the board that it leaves is valid
 --     messages-counted   the message count is the number of frames passed
 -- On any board, sound or not:
---     unsound-replay     a board that is not sound: 1, and nothing is changed
+--     unsound_replay     a board that is not sound: 1, and nothing is changed
 --     counts-within      the counts are at most the lengths of the journal and of the buffer
---     replay-repeatable, more_room       what can be observed of it does not depend on the bytes in the buffer, nor on room beyond what it needs
+--     replay_repeatable, more_room       what can be observed of it does not depend on the bytes in the buffer, nor on room beyond what it needs
 use Prim.Native.Nat.{ℕ, zero, suc, ◌+◌, ◌*◌, ◌-◌, ◌≤◌, ◌<◌}
 use native.Mathlib.Omega.{arith}
 use mathlib.Core.Path.{◌≡◌, refl, sym, ap, ap₂, ◌∙◌, subst}

@@ -1,8 +1,8 @@
 -- "Requests that crossed" (document 02, change 2), the statements of specs/Requests:
 --     requests-removed       an accepted 0205 makes the two friends and leaves a valid state, and there friends have no request between them
---     nine-between-friends   so the row for a missing request applies to a 0205 between friends
---     never-eleven           no row that may refuse a message of kind 0205 has the number 11
---     replayed-not-friends   a replay leaves the board of a valid state
+--     nine_between_friends   so the row for a missing request applies to a 0205 between friends
+--     never_eleven           no row that may refuse a message of kind 0205 has the number 11
+--     replayed_not_friends   a replay leaves the board of a valid state
 use Prim.Native.Nat.{ℕ, ◌<◌}
 use native.Mathlib.Omega.{arith}
 use mathlib.Core.Path.{◌≡◌, refl, sym, ap, ◌∙◌}

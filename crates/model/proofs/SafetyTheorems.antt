@@ -1,9 +1,9 @@
 -- CoSMed's safety properties (the CoSMed paper, section 5.1) on every valid state: that of any sound board (`valid-board` of
 -- StepTheorems), so each state that a journal leads to from the empty board (`reached_valid` of Invariant):
 --     owner-registered       1. the owner of an existing post is an existing user
---     friendship-symmetric   2. friendship is symmetric
+--     friendship_symmetric   2. friendship is symmetric
 --     friends-distinct, requests-distinct   3. the lists of friends and of friend requests contain no duplicates
---     requested-not-friends  4. with a pending request between two, they are not friends
+--     requested_not_friends  4. with a pending request between two, they are not friends
 use Prim.Native.Nat.{ℕ, zero, suc, ◌^◌, ◌≤◌, ◌<◌}
 use native.Mathlib.Nat.{le_of_lt, le_refl}
 use native.Mathlib.Omega.{arith}

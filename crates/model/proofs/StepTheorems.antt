@@ -1,11 +1,11 @@
 -- Theorems about the step:
---     step-valid-board     on the encoding of a valid state it is the step on that state, with board and buffer around it
---     unsound-refused, short-refused   1 and 2 write nothing and change nothing
+--     step_valid-board     on the encoding of a valid state it is the step on that state, with board and buffer around it
+--     unsound_refused, short-refused   1 and 2 write nothing and change nothing
 --     refused-board        a refusal leaves the board as it was
 --     refused-written      from 3 on it writes the head of a frame
---     step-sound           a step on a sound board leaves a sound board
---     step-lengths         what it writes, and that board and buffer keep their lengths
---     step-decides         a frame on a sound board, with room for the answer, gets none of 1, 2 and 3
+--     step_sound           a step on a sound board leaves a sound board
+--     step_lengths         what it writes, and that board and buffer keep their lengths
+--     step_decides         a frame on a sound board, with room for the answer, gets none of 1, 2 and 3
 use Prim.Native.Nat.{ℕ, ◌≤◌, ◌<◌, zero-le}
 use native.Mathlib.Omega.{arith}
 use mathlib.Core.Path.{◌≡◌, refl, sym, ap, subst, ◌∙◌}

@@ -1,8 +1,8 @@
 -- The wrong replays of "The promises and the table". Whatever else such a replay does, it differs from `replay_of`; the
 -- first and the last do at the input named here, on the empty board with room for three answers.
---     skipping-differs      "a replay that applies the first message and merely skips the rest"
---     miscounting-differs   "one whose message count is not the number of frames passed"
---     stopping-differs      "one that stops with 2 before the first message, whatever room is left"
+--     skipping_differs      "a replay that applies the first message and merely skips the rest"
+--     miscounting_differs   "one whose message count is not the number of frames passed"
+--     stopping_differs      "one that stops with 2 before the first message, whatever room is left"
 use Prim.Native.Nat.{ℕ, ◌*◌, ◌<◌}
 use native.Mathlib.Omega.{arith}
 use mathlib.Core.Path.{◌≡◌, refl, sym, ap, ◌∙◌}

@@ -1,8 +1,8 @@
 -- Wrong kernels of "The promises and the table", which get past demand 3. Whatever else such a step does, it differs from `step_of` at the
 -- input named here: a message on the empty board, with a buffer of zeros.
---     refusing-differs     "a kernel that says 7 to everybody"
---     accepting-differs    "one that sends the empty acceptance to everybody"
---     unchanging-differs   "one that never touches the board"
+--     refusing_differs     "a kernel that says 7 to everybody"
+--     accepting_differs    "one that sends the empty acceptance to everybody"
+--     unchanging_differs   "one that never touches the board"
 use Prim.Native.Nat.{ℕ, ◌≤◌}
 use native.Mathlib.Omega.{arith}
 use mathlib.Core.Path.{◌≡◌, refl, sym, ap, ◌∙◌}

@@ -1,6 +1,6 @@
 -- Theorems about the enum `Message`:
---     names-agree        the table's names are those of the cases
---     enum-determined    the contract of `decode` leaves one message
+--     names_agree        the table's names are those of the cases
+--     enum_determined    the contract of `decode` leaves one message
 use Prim.Native.Nat.{ℕ}
 use mathlib.Core.Path.{◌≡◌, refl, sym, ap, ap₂, ◌∙◌}
 use mathlib.Core.List.{List, [], ◌∷◌}

@@ -1,10 +1,10 @@
 -- Theorems about the fields of a body and the messages that `decode` gives:
 --     values-fit, accepted-fit     the values of fields that fit, and of an accepted message, are what their types allow
---     fields_laid, accepted-laid   the fields laid end to end are the body
+--     fields_laid, accepted_laid   the fields laid end to end are the body
 --     accepted-frame               a frame that the reader accepts has a known kind and the values of its fields
 --     refused-message              bytes that it refuses have the number of a refusal and no values
---     spans-within                 the strings of a message lie within its body, and their lengths within the limits
---     span-names                   what such a span names
+--     spans_within                 the strings of a message lie within its body, and their lengths within the limits
+--     span_names                   what such a span names
 use Prim.Native.Nat.{ℕ, zero, suc, ◌+◌, ◌≤◌, ◌<◌}
 use native.Mathlib.Nat.{not-suc-le-zero, le_of_suc-le-suc}
 use native.Mathlib.Omega.{arith}

@@ -1,6 +1,6 @@
 -- The lines of a replay's answers, and the run of its journal:
---     lines-resumed    behind them come the lines of the rest of the journal, from the board that was left
---     lines-complete   they are all, where the replay did not stop for want of room
+--     lines_resumed    behind them come the lines of the rest of the journal, from the board that was left
+--     lines_complete   they are all, where the replay did not stop for want of room
 use Prim.Native.Nat.{ℕ, suc, ◌<◌, ◌≤◌}
 use native.Mathlib.Omega.{arith}
 use mathlib.Core.Path.{◌≡◌, refl, sym, ap, ap₂, ◌∙◌, subst}

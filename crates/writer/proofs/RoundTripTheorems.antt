@@ -1,10 +1,10 @@
 -- Theorems about reader and writer, by induction on the list of fields:
---     read-back             the reader accepts the frame that was written, and what it takes from it is the message, strings compared by their bytes
---     written-again         of a frame that the reader accepts the writer makes the same bytes again
---     five-if-not-carried   5 exactly for a message that no frame carries
---     decoded-back          read-back of a message that was given as the enum and comes back as the enum
---     decoded-again         written-again by the message that `decode` gave
---     words-again           written-again by the words that `read` gave
+--     read_back             the reader accepts the frame that was written, and what it takes from it is the message, strings compared by their bytes
+--     written_again         of a frame that the reader accepts the writer makes the same bytes again
+--     five_if_not_carried   5 exactly for a message that no frame carries
+--     decoded-back          read_back of a message that was given as the enum and comes back as the enum
+--     decoded_again         written_again by the message that `decode` gave
+--     words_again           written_again by the words that `read` gave
 -- A frame carries a message exactly if the fields of its kind can hold its values (`held_carried`, `carried-held`), and the writer tests just that.
 use Prim.Native.Nat.{ℕ}
 use mathlib.Core.Path.{◌≡◌, refl, sym, ap, ap₂, ◌∙◌, subst}
