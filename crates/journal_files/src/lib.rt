@@ -24,7 +24,7 @@ pub enum Form {
 }
 
 // The lines of the answers to a journal's messages from the empty board, for as many at a time as the answer buffer has room for.
-// False where a write failed, after which nothing more is written; so with the other functions here.
+// It returns false where a write failed, and then nothing more is written. The other functions here do the same.
 fn print_parts(rt: &(impl Print + Eprint), journal: &[u8]) -> bool {
     let mut board = [0; BOARD_SIZE];
     let mut answers = [0; ANSWERS_SIZE];

@@ -72,6 +72,10 @@ inside_up_to most s =
 pub frame-inside : (s : List ℕ) → frame_length s ≤ length s
 frame-inside = inside_up_to 276
 
+-- the same of the length that a call has found
+pub found-inside : (s : List ℕ) {n : ℕ} → n ≡ frame_length s → n ≤ length s
+found-inside s e = omega (arith, frame-inside s)
+
 -- a message has 4 to 278 bytes
 pub frame-least : (s : List ℕ) → (frame_length s ≡ 0 → ⊥) → 4 ≤ frame_length s
 frame-least s n = let f = frame_at s n in omega (arith, f.stated, f.least)

@@ -9,17 +9,23 @@ use lib.Seq.{length-take-le}
 use lib.Pow.{are_bytes}
 use Rattle.layout.proofs.ByteLaws.{length_rest}
 use Rattle.layout.proofs.NumberLaws.{bytes_of}
-use Rattle.reader.specs.Frames.{frame_length}
-use Rattle.reader.proofs.FrameLaws.{frame-inside}
+use Rattle.reader.proofs.FrameLaws.{found-inside}
 use Rattle.model.specs.Soundness.{is_sound}
 use Rattle.model.specs.Step.{StepResult}
 use Rattle.model.proofs.StepTheorems.{step_sound}
 use Rattle.replay.proofs.ReplayLaws.{answer-inside, journal_used_lem, buffer-short, frame-cut, message-done}
 use Rattle.replay.proofs.+replay_rest.Goals as goal
+use Rattle.replay.proofs.+replay_rest.Goals.{After-step_sound-answer}
 
--- a frame that was found lies within the journal
-frame-in : (journal : List ℕ) {size : ℕ} → size ≡ frame_length journal → size ≤ length journal
-frame-in journal e = omega (arith, frame-inside journal)
+-- the board that was lent is bytes ..
+board-bytes : {t : ℕ} (c : After-step_sound-answer t) → are_bytes c.args.board.now ≡ true
+board-bytes c = bytes_of c.args.board.now (λ i h. omega (arith, c.slice_known-1.given i))
+
+-- .. so what the step has written lies within the buffer
+written-inside : {t : ℕ} (c : After-step_sound-answer t) → c.step_sound-answer.result.written ≤ length c.step_sound-answer.new.out
+written-inside c =
+    let s = c.step_sound-answer in
+    answer-inside _ _ _ (board-bytes c) s.result s.new.board s.new.out s.ensures
 
 pub returns-then-len-eq0 : goal.returns-then-len-eq0
 returns-then-len-eq0 t c = journal_used_lem _ _ _ c.stopped.ensures c.if-len-eq0.true
@@ -35,36 +41,30 @@ returns-then-size-eq0 t c =
 
 pub slice_bounds-step_sound-end : goal.slice_bounds-step_sound-end
 slice_bounds-step_sound-end t c =
-    sym (length-take-le c.frame_length-size.result c.args.journal.now (frame-in c.args.journal.now c.frame_length-size.ensures))
+    sym (length-take-le c.frame_length-size.result c.args.journal.now (found-inside c.args.journal.now c.frame_length-size.ensures))
 
 -- the parts lent on
 pub slice_bounds-replay_rest-count : goal.slice_bounds-replay_rest-count
-slice_bounds-replay_rest-count t c = frame-in c.args.journal.now c.frame_length-size.ensures
+slice_bounds-replay_rest-count t c = found-inside c.args.journal.now c.frame_length-size.ensures
 
 pub slice_bounds-replay_rest-start : goal.slice_bounds-replay_rest-start
-slice_bounds-replay_rest-start t c = frame-in c.args.journal.now c.frame_length-size.ensures
+slice_bounds-replay_rest-start t c = found-inside c.args.journal.now c.frame_length-size.ensures
 
 pub slice_bounds-replay_rest-count-2 : goal.slice_bounds-replay_rest-count-2
-slice_bounds-replay_rest-count-2 t c =
-    let bytes : are_bytes c.args.board.now ≡ true = bytes_of c.args.board.now (λ i h. omega (arith, c.slice_known-1.given i)) in
-    let s = c.step_sound-answer in
-    answer-inside _ _ _ bytes s.result s.new.board s.new.out s.ensures
+slice_bounds-replay_rest-count-2 t c = written-inside (goal.at.slice_bounds-replay_rest-count-2 t c).After-step_sound-answer
 
 pub slice_bounds-replay_rest-start-2 : goal.slice_bounds-replay_rest-start-2
-slice_bounds-replay_rest-start-2 t c =
-    let bytes : are_bytes c.args.board.now ≡ true = bytes_of c.args.board.now (λ i h. omega (arith, c.slice_known-1.given i)) in
-    let s = c.step_sound-answer in
-    answer-inside _ _ _ bytes s.result s.new.board s.new.out s.ensures
+slice_bounds-replay_rest-start-2 t c = written-inside (goal.at.slice_bounds-replay_rest-start-2 t c).After-step_sound-answer
 
 -- the rest is shorter, and the board that a message left is sound
 pub replay_rest-rest-requires : goal.replay_rest-rest-requires
 replay_rest-rest-requires t c =
     let journal : List ℕ = c.args.journal.now in
-    let bytes : are_bytes c.args.board.now ≡ true = bytes_of c.args.board.now (λ i h. omega (arith, c.slice_known-1.given i)) in (
+    let bytes = board-bytes (goal.at.replay_rest-rest-requires t c).After-step_sound-answer in (
       omega (
         arith,
         length_rest journal c.frame_length-size.result,
-        frame-in journal c.frame_length-size.ensures,
+        found-inside journal c.frame_length-size.ensures,
         c.if-size-eq0.false,
         c.decreases,
       ),
@@ -75,7 +75,7 @@ replay_rest-rest-requires t c =
 pub returns : goal.returns
 returns t c =
     let a = c.args in
-    let bytes : are_bytes a.board.now ≡ true = bytes_of a.board.now (λ i h. omega (arith, c.slice_known-1.given i)) in
+    let bytes = board-bytes (goal.at.returns t c).After-step_sound-answer in
     let s = c.step_sound-answer in
     let r = c.replay_rest-rest in
     message-done a.journal.now a.board.now a.out.now bytes c.frame_length-size.result s.result s.new.board s.new.out r.result

@@ -6,18 +6,14 @@ use mathlib.Core.List.{List}
 use lib.ListN.{length}
 use Rattle.layout.specs.Bytes.{bytes_written, put_bytes}
 use Rattle.layout.proofs.WrittenLaws.{put_count}
-use Rattle.reader.specs.Frames.{frame_length, frame_length_up_to}
-use Rattle.reader.proofs.FrameLaws.{frame_at, frame-inside}
+use Rattle.reader.specs.Frames.{frame_length_up_to}
+use Rattle.reader.proofs.FrameLaws.{frame_at, found-inside}
 use Rattle.report.specs.MessageLines.{lines_in}
 use Rattle.report.proofs.MessageLineLaws.{line-size, lines_short, none_left, no_frame_lem, no_answer, line_in_front}
 use Rattle.report.proofs.message_lines.+write_lines.Goals as goal
 use Rattle.report.proofs.message_lines.+write_lines.Goals.{After-write_lines-rest}
 
--- a frame that was found lies within the journal
-frame-in : (journal : List ℕ) {size : ℕ} → size ≡ frame_length journal → size ≤ length journal
-frame-in journal e = omega (arith, frame-inside journal)
-
--- and an answer within the answers
+-- an answer that was found lies within the answers
 answer-in : (answers : List ℕ) {size : ℕ} (most : ℕ) → size ≡ frame_length_up_to most answers → (size ≡ 0 → ⊥) → (4 ≤ size) × (size ≤ length answers)
 answer-in answers most e n =
     let w = frame_at {most = most} answers (λ z. n (e ∙ z)) in
@@ -41,10 +37,10 @@ overflow_sub-answer_size t c =
 
 -- the parts lent on
 pub slice_bounds-write_lines-count : goal.slice_bounds-write_lines-count
-slice_bounds-write_lines-count t c = frame-in c.args.journal.now c.frame_length-size.ensures
+slice_bounds-write_lines-count t c = found-inside c.args.journal.now c.frame_length-size.ensures
 
 pub slice_bounds-write_lines-start : goal.slice_bounds-write_lines-start
-slice_bounds-write_lines-start t c = frame-in c.args.journal.now c.frame_length-size.ensures
+slice_bounds-write_lines-start t c = found-inside c.args.journal.now c.frame_length-size.ensures
 
 pub slice_bounds-write_lines-count-2 : goal.slice_bounds-write_lines-count-2
 slice_bounds-write_lines-count-2 t c =
