@@ -1,5 +1,5 @@
 -- What the functions for C show at their returns, of plain numbers and lists.
-use Prim.Native.Nat.{ℕ, ◌+◌, ◌*◌, ◌/◌, ◌%◌, ◌≤◌, ◌<◌}
+use Prim.Native.Nat.{ℕ, ◌≤◌, ◌<◌}
 use native.Mathlib.Omega.{arith}
 use mathlib.Core.Path.{◌≡◌, refl, sym, ap, ◌∙◌}
 use mathlib.Core.List.{List, ◌++◌, append_assoc, append-nil}
@@ -7,6 +7,7 @@ use mathlib.Core.Bool.{true}
 use lib.ListN.{length, length-append, drop_of_length-le}
 use lib.Pow.{are_bytes}
 use borrow.Author.Tests.{eq-eqb, ne_eqb}
+use Rattle.std.specs.Prelude.{Result, Ok, Err, IfOk}
 use Rattle.layout.specs.Bytes.{write_at, bytes_written, put_bytes}
 use Rattle.layout.specs.Numbers.{to_le_bytes}
 use Rattle.layout.proofs.ByteLaws.{length-write}
@@ -21,38 +22,18 @@ use Rattle.step.specs.declared.Answer.{Answer}
 use Rattle.replay.specs.Results.{stop_number, replayed}
 use Rattle.replay.specs.declared.Replayed.{Replayed}
 use Rattle.writer.specs.Encoding.{WriteResult, outcome}
-use Rattle.writer.specs.declared.Outcome.{Outcome}
-use Rattle.abi.specs.CallResults.{step_called, write_called, replay_called, count_bytes, counts_size, wrong_counts, replay_call_of}
+use Rattle.writer.specs.declared.Refusal.{Refusal}
+use Rattle.abi.specs.CallResults.{replay_called, count_bytes, counts_size, wrong_counts, replay_call_of}
 
--- ---- one number for two
+-- ---- one number for two: few are written
 
-packed_number : (w n : ℕ) → n < 65536 → (w * 65536 + n) % 65536 ≡ n
-packed_number w n h = omega arith
+pub written-short : (m b o : List ℕ) (a : Answer) {b' o' : List ℕ} → stepped a b' o' ≡ step_of m b o → are_bytes b ≡ true → a.written ≤ answer_limit
+written-short m b o a done y = let l = step_lengths m b o y in omega (arith, ap (λ (x : StepResult). x.written) done)
 
-packed_written : (w n : ℕ) → n < 65536 → (w * 65536 + n) / 65536 ≡ w
-packed_written w n h = omega arith
-
-module _ (w n : ℕ) {r : ℕ} (e : r ≡ w * 65536 + n) (h : n < 65536) where
-  unpacked_number : r % 65536 ≡ n
-  unpacked_number = ap (λ (x : ℕ). x % 65536) e ∙ packed_number w n h
-
-  unpacked_written : r / 65536 ≡ w
-  unpacked_written = ap (λ (x : ℕ). x / 65536) e ∙ packed_written w n h
-
-module _ (m b o : List ℕ) {a : Answer} {b' o' : List ℕ} (done : stepped a b' o' ≡ step_of m b o) where
-  pub written-short : are_bytes b ≡ true → a.written ≤ answer_limit
-  written-short y = let l = step_lengths m b o y in omega (arith, ap (λ (x : StepResult). x.written) done)
-
-  pub step_called_lem : {r : ℕ} → r ≡ a.written * 65536 + a.number → a.number < 65536 → step_called r b' o' ≡ step_of m b o
-  step_called_lem e h = (λ i. record { number = unpacked_number a.written a.number e h i; written = unpacked_written a.written a.number e h i; board = b'; buffer = o' }) ∙ done
-
-module _ (a : Outcome) (b : List ℕ) {x : WriteResult} (done : outcome a b ≡ x) where
-  pub few-written : {n : ℕ} → x.written ≤ n → n < 65536 → a.written < 65536
-  few-written h l = omega (arith, ap (λ (y : WriteResult). y.written) done)
-
-  pub write_called_lem : {r : ℕ} → r ≡ a.written * 65536 + a.number → a.number < 65536 → write_called r b ≡ x
-  write_called_lem e h =
-      (λ i. record { number = unpacked_number a.written a.number e h i; written = unpacked_written a.written a.number e h i; buffer = b }) ∙ done
+pub few-written : (done : Result ℕ Refusal) (b : List ℕ) {x : WriteResult} {n : ℕ} → outcome done b ≡ x → x.written ≤ n → n < 65536
+    → IfOk done (λ (written : ℕ). written < 65536)
+few-written (Ok written) b e h l = omega (arith, ap (λ (y : WriteResult). y.written) e)
+few-written (Err refusal) b e h l = tt
 
 -- ---- the replay
 

@@ -1,20 +1,19 @@
 // The kernel as programs in C and Rust call it (include/staff_board.h): numbers and byte slices only. `abi_c` exports these functions.
 #![tactic(auto)]
 
-ghost use Rattle.std.specs.Prelude.{◌≡◌, cond, ◌+◌, ◌*◌, ◌<◌};
+ghost use Rattle.std.specs.Prelude.{◌≡◌, cond, ◌+◌, ◌*◌, ◌<◌, ℕ, List, IfOk};
 ghost use Rattle.reader.specs.Messages.{message_content};
 ghost use Rattle.model.specs.Soundness.{is_sound};
 ghost use Rattle.model.specs.Step.{step_of};
-ghost use Rattle.replay.specs.Results.{stop_number};
-ghost use Rattle.writer.specs.Encoding.{encode_of};
+ghost use Rattle.writer.specs.Encoding.{outcome, encode_of};
 ghost use Rattle.writer.specs.Words.{word_content, read_of};
 ghost use Rattle.abi.specs.CallResults.{step_called, write_called, replay_called, replay_call_of};
 
 use board::sound;
-use layout::number::write_u64;
-use replay::{Stop, replay};
+use layout::number::write_number;
+use replay::replay;
 use step::step;
-use writer::{read, write};
+use writer::{Refusal, read, write};
 
 // Three numbers of eight bytes.
 const COUNTS_SIZE: usize = 24;
@@ -26,10 +25,7 @@ const WRONG_COUNTS: u32 = 255;
 pub fn staff_board_sound(board: &[u8]) -> u32
     ensures { result ≡ cond (is_sound board.now) 1 0 }
 {
-    if sound(board) {
-        return 1;
-    }
-    0
+    u32::from(sound(board))
 }
 
 // One number for two: how much was written times 65,536, and the number.
@@ -40,23 +36,23 @@ fn packed(written: usize, number: u16) -> u32
     (written as u32) * 65536 + number as u32
 }
 
+// The same of what the writer returns: 0 and how much was written, or the number of the refusal, which writes nothing.
+fn packed_result(done: Result<usize, Refusal>) -> u32
+    requires { IfOk done (λ written. written < 65536) }
+    ensures { (buffer : List ℕ) → write_called result buffer ≡ outcome done buffer }
+{
+    match done {
+        Ok(written) => packed(written, 0),
+        Err(refusal) => packed(0, u16::from(refusal)),
+    }
+}
+
 // One message on a board.
 pub fn staff_board_step(message: &[u8], board: &mut [u8], answer: &mut [u8]) -> u32
     ensures { step_called result board.new answer.new ≡ step_of message.now board.old answer.old }
 {
     let done = step(message, board, answer);
-    packed(done.written, done.number)
-}
-
-fn stop_number(stop: Stop) -> u32
-    ensures { result ≡ stop_number stop }
-{
-    match stop {
-        Stop::JournalUsed => 0,
-        Stop::BoardUnsound => 1,
-        Stop::BufferShort => 2,
-        Stop::FrameCut => 3,
-    }
+    packed(done.written, done.number())
 }
 
 // A journal on a board: the number of the stop. The counts are messages done, journal bytes passed and answer bytes written; where they have not
@@ -73,28 +69,22 @@ pub fn staff_board_replay(
         return WRONG_COUNTS;
     }
     let done = replay(journal, board, answers);
-    let messages = done.messages;
-    let passed = done.passed;
-    let written = done.written;
-    let stop = done.stop;
-    write_u64(counts, 0, messages as u64);
-    write_u64(counts, 8, passed as u64);
-    write_u64(counts, 16, written as u64);
-    stop_number(stop)
+    write_number(counts, 0, 8, done.messages as u64);
+    write_number(counts, 8, 8, done.passed as u64);
+    write_number(counts, 16, 8, done.written as u64);
+    u32::from(done.stop)
 }
 
 // The frame of a message that is given as its kind and the words of its values.
 pub fn staff_board_write(kind: u32, values: &[u64], lent: &[u8], frame: &mut [u8]) -> u32
     ensures { write_called result frame.new ≡ encode_of (word_content lent.now kind values.now) frame.old }
 {
-    let done = write(kind, values, lent, frame);
-    packed(done.written, done.number)
+    packed_result(write(kind, values, lent, frame))
 }
 
 // The way back: the words of a message's values.
 pub fn staff_board_read(message: &[u8], values: &mut [u64]) -> u32
     ensures { write_called result values.new ≡ read_of (message_content message.now) values.old }
 {
-    let done = read(message, values);
-    packed(done.written, done.number)
+    packed_result(read(message, values))
 }

@@ -1,4 +1,5 @@
-// The kernel for programs in C and Rust (include/staff_board.h): the functions of `abi`, exported under their names.
+// The kernel for programs in C and Rust (include/staff_board.h): the functions of `abi`, exported under their names, one by one, as C
+// calls them.
 #![tactic(auto)]
 
 ghost use Rattle.std.specs.Prelude.{◌≡◌, cond};

@@ -79,23 +79,23 @@ place-within e h l = record { used = omega arith; room = omega arith }
 registered_slot_within : {b : List ℕ} → SoundState b → (u : ℕ) → is_registered (decode b) u ≡ true → {i : ℕ} → i ≡ user_slot (decode b) u → SlotWithin b i
 registered_slot_within {b = b} w u h e = place-within e (slot_below (decode b) u h) (users-limit w)
 
--- k is the number that the test of the rows gave
-module _ {b : List ℕ} (w : SoundState b) (u p : ℕ) {k : ℕ} (z : k ≡ 0) {i : ℕ} where
-  pub sender_slot_within : k ≡ first_number (after_login (decode b) u p []) → i ≡ user_slot (decode b) u → SlotWithin b i
-  sender_slot_within f e = registered_slot_within w u (login-passed (decode b) u p [] (sym f ∙ z)) e
+-- where the rows give no refusal
+module _ {b : List ℕ} (w : SoundState b) (u p : ℕ) {i : ℕ} where
+  pub sender_slot_within : 0 ≡ first_number (after_login (decode b) u p []) → i ≡ user_slot (decode b) u → SlotWithin b i
+  sender_slot_within f e = registered_slot_within w u (login-passed (decode b) u p [] (sym f)) e
 
   -- the sender's slot, and the other user's
-  pub slots-within : (v : ℕ) → k ≡ first_number (user_rows (decode b) u p v []) → i ≡ user_slot (decode b) u → {j : ℕ} → j ≡ user_slot (decode b) v
+  pub slots-within : (v : ℕ) → 0 ≡ first_number (user_rows (decode b) u p v []) → i ≡ user_slot (decode b) u → {j : ℕ} → j ≡ user_slot (decode b) v
       → SlotWithin b i × SlotWithin b j
   slots-within v f e q =
-      let there = user-passed (decode b) u p v (sym f ∙ z) in
+      let there = user-passed (decode b) u p v (sym f) in
       (registered_slot_within w u there.0 e, registered_slot_within w v there.1 q)
 
-  pub post-place-within : (kind n : ℕ) → k ≡ first_number (post_rows (decode b) kind u p n) → i ≡ post_place (decode b) n
+  pub post-place-within : (kind n : ℕ) → 0 ≡ first_number (post_rows (decode b) kind u p n) → i ≡ post_place (decode b) n
       → PlaceWithin i (length (decode b).posts) post_limit
-  post-place-within kind n f e = place-within e (post-below (decode b) n (post-passed (decode b) u p kind n (sym f ∙ z))) (posts-limit w)
+  post-place-within kind n f e = place-within e (post-below (decode b) n (post-passed (decode b) u p kind n (sym f))) (posts-limit w)
 
-  pub pending-place-within : (kind v : ℕ) → k ≡ first_number (pending_rows (decode b) kind u p v []) → i ≡ pending_place (decode b) v
+  pub pending-place-within : (kind v : ℕ) → 0 ≡ first_number (pending_rows (decode b) kind u p v []) → i ≡ pending_place (decode b) v
       → PlaceWithin i (length (decode b).pending) pending_limit
   pending-place-within kind v f e =
-      place-within e (pending-below (decode b) v (pending-passed (decode b) u p kind v (sym f ∙ z))) (pending-limit w)
+      place-within e (pending-below (decode b) v (pending-passed (decode b) u p kind v (sym f))) (pending-limit w)

@@ -1,4 +1,5 @@
 pub mod RefusalLaws
 pub mod AcceptedPlaces
+pub mod TableReads
 pub mod RecordReads
 pub mod RightLaws

@@ -1,1 +1,4 @@
 pub mod Rights
+pub mod Refusals
+pub mod Tables
+pub mod SoundBoards

@@ -5,3 +5,5 @@
 pub mod lookups;
 pub mod records;
 pub mod refusals;
+pub mod sound_board;
+pub mod tables;

@@ -1,16 +1,38 @@
-// The rows 7 to 10 of the table of refusals that several kinds share: the number of the first that applies, 0 where none does.
-ghost use Rattle.std.specs.Prelude.{◌≡◌, true, cond, ◌||◌, [], eqb};
+// The refusals of actions, 6 to 12 in the table of refusals, and the rows 7 to 10 that several kinds share: a function for the kinds of each
+// list of rows returns the refusal of the first row that applies, or where the records stand that an accepted action names.
+ghost use Rattle.std.specs.Prelude.{◌≡◌, true, cond, ◌||◌, [], eqb, IfOk};
 ghost use Rattle.layout.specs.Bits.{has_bit};
 ghost use Rattle.model.specs.State.{user_at};
-ghost use Rattle.model.specs.Board.{decode};
 ghost use Rattle.model.specs.Lookups.{user_slot, post_place, pending_place};
 ghost use Rattle.model.specs.Refusals.{first_number, right_of, lacks_right, after_login, post_rows, user_rows, pending_rows};
-ghost use Rattle.model.proofs.SoundnessTheorems.{SoundState};
+ghost use Rattle.access.specs.SoundBoards.{state_of};
 ghost use Rattle.access.specs.Rights.{enum_right, StandsAt, is_post_kind, is_pending_kind};
+ghost use Rattle.access.specs.Refusals.{refusal_number, result_number};
 
-use crate::lookups::{are_friends, is_admin, is_owner, may_read, user_slot};
-use crate::records::{pending_count, post_count, user_count, user_password};
+use crate::sound_board::SoundBoard;
+use crate::tables::Table;
 use reader::Login;
+
+// Why an action is refused, by the number that is returned.
+#[derive(Clone, Copy, PartialEq, Eq, Debug)]
+pub enum Refusal {
+    // users where there may be none, or none where some must be
+    WrongStart = 6,
+    WrongLogin = 7,
+    NotAdmin = 8,
+    Missing = 9,
+    NotEntitled = 10,
+    AlreadyThere = 11,
+    Full = 12,
+}
+
+impl From<Refusal> for u16 {
+    ghost from_gives = { λ refusal number. number ≡ refusal_number refusal };
+
+    fn from(refusal: Refusal) -> u16 {
+        refusal as u16
+    }
+}
 
 // What a kind asks of a sender who is registered and has given the right password.
 #[derive(Clone, Copy)]
@@ -22,7 +44,8 @@ pub enum Right {
     Unrestricted,
 }
 
-// "0202, 0502, 0601: U not the admin", "0402 to 0405: not the owner; 0504 to 0507, 0606: not entitled"
+// "0202, 0502, 0601: U not the admin", "0402 to 0405: not the owner; 0504 to 0507, 0606: not entitled". The kind stays the number that it is in a
+// message, so that it can be matched over ranges, as the bureau wants it.
 pub fn right_of(kind: u16) -> Right
     ensures { enum_right result ≡ right_of kind }
 {
@@ -37,106 +60,89 @@ pub fn right_of(kind: u16) -> Right
     }
 }
 
-// "0606 .. V, where V is U or a friend of U", by numbers and slots
-fn may_list(b: &[u8], u: u32, v: u32, i: usize, j: usize) -> bool
-    requires { SoundState b.now }
-    ensures { result ≡ (eqb u v || has_bit (user_at (decode b.now) i).friends j) }
+// Refuses a sender who is not entitled.
+fn require(entitled: bool, refusal: Refusal) -> Result<(), Refusal>
+    ensures { result_number result ≡ cond entitled 0 (refusal_number refusal) }
 {
-    if u == v {
-        return true;
-    }
-    are_friends(b, i, j)
+    if entitled { Ok(()) } else { Err(refusal) }
 }
 
-// 0 for a sender who is entitled, else the number.
-fn unless(entitled: bool, number: u16) -> u16
-    ensures { result ≡ cond entitled 0 number }
-{
-    if entitled {
-        return 0;
+impl<'a> SoundBoard<'a> {
+    // "0606 .. V, where V is U or a friend of U", by numbers and slots
+    fn may_list(&self, u: u32, v: u32, i: usize, j: usize) -> bool
+        ensures { result ≡ (eqb u v || has_bit (user_at (state_of self.now) i).friends j) }
+    {
+        u == v || self.are_friends(i, j)
     }
-    number
-}
 
-// The refusal of u, in slot i, without the right to x, a post or another user, at place k.
-pub fn right_refusal(b: &[u8], right: Right, u: u32, x: u32, i: usize, k: usize) -> u16
-    requires { SoundState b.now × (i ≡ user_slot (decode b.now) u) × StandsAt (enum_right right) (decode b.now) x k }
-    ensures { result ≡ first_number (lacks_right (decode b.now) (enum_right right) u x) }
-{
-    match right {
-        Right::Admin => unless(is_admin(b, u), 8),
-        Right::Owner => unless(is_owner(b, i, k), 10),
-        Right::Reader => unless(may_read(b, i, k), 10),
-        Right::Friend => unless(may_list(b, u, x, i, k), 10),
-        Right::Unrestricted => 0,
+    // The refusal of u, in slot i, without the right to x, a post or another user, at place k. Numbers and places apart, since some rights look at numbers
+    // alone and some at neither.
+    pub fn check_right(
+        &self,
+        right: Right,
+        u: u32,
+        x: u32,
+        i: usize,
+        k: usize,
+    ) -> Result<(), Refusal>
+        requires { (i ≡ user_slot (state_of self.now) u) × StandsAt (enum_right right) (state_of self.now) x k }
+        ensures { result_number result ≡ first_number (lacks_right (state_of self.now) (enum_right right) u x) }
+    {
+        match right {
+            Right::Admin => require(self.is_admin(u), Refusal::NotAdmin),
+            Right::Owner => require(self.is_owner(i, k), Refusal::NotEntitled),
+            Right::Reader => require(self.may_read(i, k), Refusal::NotEntitled),
+            Right::Friend => require(self.may_list(u, x, i, k), Refusal::NotEntitled),
+            Right::Unrestricted => Ok(()),
+        }
     }
-}
 
-// "U not registered or P wrong", where U is in slot i.
-pub fn login_refusal(b: &[u8], login: Login, i: usize) -> u16
-    requires { SoundState b.now × (i ≡ user_slot (decode b.now) login.user) }
-    ensures { result ≡ first_number (after_login (decode b.now) login.user login.password []) }
-{
-    if user_count(b) <= i {
-        return 7;
+    // The slot of a sender who is registered and has given the right password: "U not registered or P wrong".
+    pub fn log_in(&self, login: Login) -> Result<usize, Refusal>
+        ensures number { result_number result ≡ first_number (after_login (state_of self.now) login.user login.password []) }
+        ensures slot { IfOk result (λ i. i ≡ user_slot (state_of self.now) login.user) }
+    {
+        let i = self
+            .find(Table::Users, login.user)
+            .ok_or(Refusal::WrongLogin)?;
+        if self.user_password(i) != login.password {
+            return Err(Refusal::WrongLogin);
+        }
+        Ok(i)
     }
-    if user_password(b, i) != login.password {
-        return 7;
-    }
-    0
-}
 
-// Kinds with a post (0402 to 0405, 0504 to 0508), which is at a place.
-pub fn post_refusal(b: &[u8], kind: u16, login: Login, n: u32, place: usize) -> u16
-    requires { SoundState b.now × (place ≡ post_place (decode b.now) n) × (is_post_kind kind ≡ true) }
-    ensures { result ≡ first_number (post_rows (decode b.now) kind login.user login.password n) }
-{
-    let u = login.user;
-    let i = user_slot(b, u);
-    let number = login_refusal(b, login, i);
-    if number != 0 {
-        return number;
+    // Kinds with a post (0402 to 0405, 0504 to 0508): its place, for a sender with the right to it. By the kind, as `right_of` has it.
+    pub fn permitted_post(&self, kind: u16, login: Login, n: u32) -> Result<usize, Refusal>
+        requires { is_post_kind kind ≡ true }
+        ensures number { result_number result ≡ first_number (post_rows (state_of self.now) kind login.user login.password n) }
+        ensures place { IfOk result (λ place. place ≡ post_place (state_of self.now) n) }
+    {
+        let i = self.log_in(login)?;
+        let place = self.find(Table::Posts, n).ok_or(Refusal::Missing)?;
+        self.check_right(right_of(kind), login.user, n, i, place)?;
+        Ok(place)
     }
-    if post_count(b) <= place {
-        return 9;
-    }
-    right_refusal(b, right_of(kind), u, n, i, place)
-}
 
-// Kinds with another user (0204, 0205, 0301, 0501, 0509, 050A, 0606), up to "V not registered"; their functions test the rows behind it.
-// U is in slot i, V in slot j.
-pub fn user_refusal(b: &[u8], login: Login, v: u32, i: usize, j: usize) -> u16
-    requires { SoundState b.now × (i ≡ user_slot (decode b.now) login.user) × (j ≡ user_slot (decode b.now) v) }
-    ensures { result ≡ first_number (user_rows (decode b.now) login.user login.password v []) }
-{
-    let number = login_refusal(b, login, i);
-    if number != 0 {
-        return number;
+    // Kinds with another user (0204, 0205, 0301, 0501, 0509, 050A, 0606), up to "V not registered": the slots of both. The functions of the
+    // kinds test the rows behind it.
+    pub fn log_in_with(&self, login: Login, v: u32) -> Result<(usize, usize), Refusal>
+        ensures number { result_number result ≡ first_number (user_rows (state_of self.now) login.user login.password v []) }
+        ensures slots { IfOk result (λ slots. (slots.0 ≡ user_slot (state_of self.now) login.user) × (slots.1 ≡ user_slot (state_of self.now) v)) }
+    {
+        let i = self.log_in(login)?;
+        let j = self.find(Table::Users, v).ok_or(Refusal::Missing)?;
+        Ok((i, j))
     }
-    if user_count(b) <= j {
-        return 9;
-    }
-    0
-}
 
-// Kinds for the admin with a pending registration (0202, 0502), which is at a place, up to "not pending"; their functions test the rows
-// behind it.
-pub fn pending_refusal(b: &[u8], kind: u16, login: Login, v: u32, place: usize) -> u16
-    requires { SoundState b.now × (place ≡ pending_place (decode b.now) v) × (is_pending_kind kind ≡ true) }
-    ensures { result ≡ first_number (pending_rows (decode b.now) kind login.user login.password v []) }
-{
-    let u = login.user;
-    let i = user_slot(b, u);
-    let login_number = login_refusal(b, login, i);
-    if 0 < login_number {
-        return login_number;
+    // Kinds for the admin with a pending registration (0202, 0502), up to "not pending": its place. The functions of the kinds test the rows
+    // behind it. The right of the admin looks at no place.
+    pub fn permitted_pending(&self, kind: u16, login: Login, v: u32) -> Result<usize, Refusal>
+        requires { is_pending_kind kind ≡ true }
+        ensures number { result_number result ≡ first_number (pending_rows (state_of self.now) kind login.user login.password v []) }
+        ensures place { IfOk result (λ place. place ≡ pending_place (state_of self.now) v) }
+    {
+        let sender = self.log_in(login)?;
+        self.check_right(right_of(kind), login.user, v, sender, 0)?;
+        self.find(Table::Pending, v).ok_or(Refusal::Missing)
     }
-    let right_number = right_refusal(b, right_of(kind), u, v, i, place);
-    if right_number != 0 {
-        return right_number;
-    }
-    if pending_count(b) <= place {
-        return 9;
-    }
-    0
 }

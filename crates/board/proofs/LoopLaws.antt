@@ -3,10 +3,14 @@ use Prim.Native.Nat.{ℕ, ◌+◌, ◌≤◌, ◌<◌}
 use native.Mathlib.Numerals.{add-one}
 use native.Mathlib.Omega.{arith}
 use mathlib.Core.Path.{◌≡◌, refl, sym, ap, ◌∙◌}
+use mathlib.Core.List.{List, [], ◌∷◌}
+use Rattle.std.specs.List.{list_all}
+use lib.ListN.{length, get_or}
 use mathlib.Core.Bool.{Bool, true, false, ◌&&◌, true≢false}
 use Rattle.layout.proofs.BooleanLaws.{and_both, refuted, chain_stops, chain_goes_on}
-use Rattle.model.specs.Lists.{all_below}
+use Rattle.model.specs.Lists.{for_all, all_below}
 use Rattle.model.proofs.ListLaws.{below_at}
+use Rattle.model.proofs.BelowLaws.{all_below_lem}
 
 pub record Passed (clause : Bool) (test : ℕ → Bool) (n i : ℕ) : Type 0 where
   pub within : i ≤ n
@@ -39,3 +43,13 @@ module _ {clause : Bool} {test : ℕ → Bool} {n : ℕ} where
 
       pub both-pass : s ≡ true → t ≡ true → Passed clause test n (i + 1)
       both-pass q r = passed-next h (e ∙ and_both q r)
+
+-- a test of each record of a list is one at each place
+pub each_record : (p : List ℕ → Bool) (rs : List (List ℕ)) → for_all p rs ≡ all_below (length rs) (λ (i : ℕ). p (get_or rs i []))
+each_record p rs = all_below_lem p rs [] (λ (i : ℕ). get_or rs i []) refl (λ i h. refl)
+
+-- the library's test of all elements is the model's
+pub all_elements : {A : Type 0} (p : A → Bool) (xs : List A) → list_all p xs ≡ for_all p xs
+unfolding for_all
+all_elements p [] = refl
+all_elements p (x ∷ xs) = ap (λ (t : Bool). p x && t) (all_elements p xs)

@@ -1,35 +1,41 @@
 -- Laws of notes: the words behind a note's string, rows of notes, and the clauses about notes as tests of the notes where they stand.
 use Prim.Native.Nat.{ℕ, zero, suc, ◌+◌, ◌-◌, ◌*◌, ◌/◌, ◌^◌, min, ◌≤◌, ◌<◌}
-use native.Mathlib.Nat.{add-zero}
+use native.Mathlib.Nat.{zero-add, add-zero}
 use native.Mathlib.Omega.{arith}
-use mathlib.Core.Path.{◌≡◌, refl, sym, ap, ap₂, ◌∙◌}
+use mathlib.Core.Path.{◌≡◌, refl, sym, ap, ap₂, subst, ◌∙◌}
 use mathlib.Core.List.{List, [], map}
 use mathlib.Core.Bool.{Bool, true, false, ◌&&◌, ◌||◌, and_comm}
-use lib.ListN.{length, get_or, get_or-map, get_or-eq_default}
-use lib.Seq.{get_or-drop}
-use lib.Dec.{eqb, leb, ltb, lit≤}
+use lib.Count.{count_leading_zeros}
+use lib.ListN.{length, take, drop, get_or, get_or-map, get_or-eq_default}
+use lib.Seq.{get_or-drop, get_or-take, length-take-le}
+use lib.Dec.{eqb, leb, ltb, lit<, lit≤}
 use lib.Bits.{bit_or}
 use lib.Pow.{are_bytes}
 use borrow.Author.Tests.{eqb-true, le-leb, lt-leb}
+use Rattle.std.specs.List.{list_all, zip}
+use Rattle.std.proofs.lemmas.Slice.Zip.{length-zip, get_or-zip}
+use Rattle.std.specs.Simd.{first_chunks}
+use Rattle.std.proofs.lemmas.Nat.{leading_length}
 use Rattle.layout.specs.Bytes.{bytes_at, all_zero}
 use Rattle.layout.specs.Numbers.{from_le_bytes}
 use Rattle.layout.specs.StringFields.{stated_length, field_string, is_string_field}
 use Rattle.layout.specs.Bits.{bit_at, has_bit}
 use Rattle.layout.proofs.BooleanLaws.{and_where, chain_stops, chain_goes_on, at_most-zero}
-use Rattle.layout.proofs.ByteLaws.{zero_join, zero_cover}
+use Rattle.layout.proofs.ByteLaws.{bytes_at-bytes_at, bytes_at_all, length-bytes_at, zero_join, zero_cover}
 use Rattle.layout.proofs.WordLaws.{word_zero, word_rest, or_width}
 use Rattle.layout.proofs.BitLaws.{bit_lt, bit_beyond}
 use Rattle.layout.proofs.StringFieldLaws.{stated_at, field-rest, holds-string, length-string}
 use Rattle.reader.specs.Fields.{note_limit, number_in}
 use Rattle.model.specs.Lists.{for_all, all_below}
-use Rattle.model.specs.State.{User, note_count, no_user, user_at, notes_to}
-use Rattle.model.specs.Board.{board_size, cut_board, user_count, state_of, decode}
+use Rattle.model.specs.State.{User, user_limit, note_count, no_user, user_at, notes_to}
+use Rattle.model.specs.Board.{cut_board, state_of, decode, decode_user}
 use Rattle.model.specs.Soundness.{notes_requested}
-use Rattle.model.proofs.SoundnessLaws.{within-limits}
-use Rattle.model.proofs.CutLaws.{length_records, piece_at, zero_records}
+use Rattle.model.proofs.CutLaws.{length_records, piece_at, drop-table, zero-pieces, zero_records}
 use Rattle.model.proofs.BelowLaws.{all_below_lem, below_plus, below-same, below_both, below_grid}
-use Rattle.board.specs.BoardTests.{BoardWithinLimits, note_field, note_within, note_allowed}
-use Rattle.board.proofs.RecordPlaces.{count-users, requests_at}
+use Rattle.board.specs.declared.counted.CountedBoard.{CountedBoard}
+use Rattle.board.specs.BoardTests.{records_at, request_row, note_within, note_allowed}
+use Rattle.board.proofs.LoopLaws.{all_elements}
+use Rattle.board.proofs.RecordPlaces.{array-records, used-limits, decoded-count, user-decoded}
 
 -- ---- the words behind the string of a note
 
@@ -109,41 +115,78 @@ note-requested f t l =
 
 -- ---- the notes to a slot
 
--- where the field of the note to slot i from slot j stands, and the test of it by any row of request bits
-pub note-bytes : (b : List ℕ) (i j : ℕ) → i < 32 → j < 32 → note_field b i j ≡ bytes_at b (23824 + i * 832 + j * 26) 26
-unfolding cut_board
-note-bytes b i j h l =
-    let place : 23824 + (32 * i + j) * 26 ≡ 23824 + i * 832 + j * 26 = omega arith in
-    piece_at b 26 note_count 23824 (32 * i + j) (omega arith) ∙ ap (λ (at : ℕ). bytes_at b at 26) place
+-- all notes to a slot with this request row
+abbrev pub notes_fit : List ℕ → ℕ → Bool
+notes_fit slot row = all_below 32 (note_allowed slot row)
+
+-- behind the last request bit they are one run of zeros
+pub notes-behind : (slot : List ℕ) (row n : ℕ) → length slot ≡ 832 → row < 2 ^ n → n ≤ 32
+    → notes_fit slot row ≡ (all_below n (note_allowed slot row) && all_zero (bytes_at slot (n * 26) ((32 - n) * 26)))
+unfolding note_allowed
+notes-behind slot row n l small m =
+    let s : 32 ≡ n + (32 - n) = omega arith in
+    ap (λ (k : ℕ). all_below k (note_allowed slot row)) s ∙ below_plus (note_allowed slot row) n (32 - n)
+    ∙ ap (λ (t : Bool). all_below n (note_allowed slot row) && t)
+    (below-same (32 - n) (λ (k : ℕ). note_allowed slot row (n + k)) (λ (k : ℕ). all_zero (bytes_at slot (n * 26 + k * 26) 26))
+    (λ k q.
+    let place : (n + k) * 26 ≡ n * 26 + k * 26 = omega arith in
+    ap (λ (t : ℕ). note_within (t * note_limit) (bytes_at slot ((n + k) * 26) 26)) (bit_beyond row n (n + k) small (omega arith))
+    ∙ empty-note slot ((n + k) * 26) (omega arith) ∙ ap (λ (o : ℕ). all_zero (bytes_at slot o 26)) place)
+    ∙ zero_records slot 26 (32 - n) (n * 26))
+
+-- and all of them where there is no request
+empty-notes : (slot : List ℕ) → length slot ≡ 832 → {row : ℕ} → row ≡ 0 → notes_fit slot row ≡ all_zero slot
+unfolding all_below
+empty-notes slot l {row} z = notes-behind slot row 0 l (omega arith) (omega arith) ∙ ap all_zero (bytes_at_all slot 832 l)
+
+-- how many notes there are up to the last request bit
+abbrev pub requested : ℕ → ℕ
+requested row = 32 - count_leading_zeros 32 row
+
+-- the slot cut into fields, and those in front of the last request bit
+module _ (slot : List ℕ) (row : ℕ) {fields : List (List ℕ)} (l : length slot ≡ 832) (small : row < 2 ^ 32)
+    (e : fields ≡ first_chunks 26 (length slot / 26) slot) where
+  cut : fields ≡ records_at slot 0 26 32
+  cut = e ∙ array-records slot 26 32 832 (lit< tt) l refl
+
+  pub requested-fields : length (take (requested row) fields) ≡ requested row
+  requested-fields = length-take-le (requested row) fields (let count = ap length cut ∙ length_records slot 26 32 0 in omega arith)
+
+  pub field_at : (j : ℕ) → j < requested row → get_or (take (requested row) fields) j [] ≡ bytes_at slot (j * 26) 26
+  field_at j h =
+      get_or-take (requested row) fields j [] h ∙ ap (λ (fs : List (List ℕ)). get_or fs j []) cut
+      ∙ piece_at slot 26 32 0 j (omega arith) ∙ ap (λ (o : ℕ). bytes_at slot o 26) (zero-add (j * 26))
+
+  pub behind_requested : notes_fit slot row
+      ≡ (all_below (requested row) (note_allowed slot row) && all_zero (bytes_at slot (requested row * 26) ((32 - requested row) * 26)))
+  behind_requested =
+      let (m, p, h, _) = leading_length 32 row small in
+      let q : m ≡ requested row = omega arith in
+      notes-behind slot row (requested row) l (subst (λ (k : ℕ). row < 2 ^ k) q h) (omega arith)
+
+-- the field of the note to slot i from slot j, which "is number 32 × i + j", and the test of it by any row of request bits
+abbrev note_field : List ℕ → ℕ → ℕ → List ℕ
+note_field b i j = get_or (cut_board b).notes (user_limit * i + j) []
 
 abbrev note_by : List ℕ → ℕ → ℕ → ℕ → Bool
 note_by b row i j = note_within (bit_at row j * note_limit) (note_field b i j)
 
--- all notes to slot i
-abbrev pub notes_fit : List ℕ → ℕ → Bool
-notes_fit b i = all_below 32 (note_allowed b i)
+-- where the notes to slot i stand, and each of them there
+abbrev pub slot_notes : List ℕ → ℕ → List ℕ
+slot_notes b i = bytes_at b (23824 + i * 832) 832
 
--- behind the last request bit they are one run of zeros
-pub notes-behind : (b : List ℕ) (i row n : ℕ) → i < 32 → length b ≡ board_size → row < 2 ^ n → n ≤ 32
-    → all_below 32 (note_by b row i) ≡ (all_below n (note_by b row i) && all_zero (bytes_at b (23824 + i * 832 + n * 26) ((32 - n) * 26)))
-notes-behind b i row n h l small m =
-    let at : ℕ = 23824 + i * 832 in
-    let s : 32 ≡ n + (32 - n) = omega arith in
-    ap (λ (k : ℕ). all_below k (note_by b row i)) s ∙ below_plus (note_by b row i) n (32 - n)
-    ∙ ap (λ (t : Bool). all_below n (note_by b row i) && t)
-    (below-same (32 - n) (λ (k : ℕ). note_by b row i (n + k)) (λ (k : ℕ). all_zero (bytes_at b (at + n * 26 + k * 26) 26))
-    (λ k q.
-    let place : at + (n + k) * 26 ≡ at + n * 26 + k * 26 = omega arith in
-    ap₂ (λ (t : ℕ) (f : List ℕ). note_within (t * note_limit) f) (bit_beyond row n (n + k) small (omega arith)) (note-bytes b i (n + k) h (omega arith))
-    ∙ empty-note b (at + (n + k) * 26) (omega arith) ∙ ap (λ (o : ℕ). all_zero (bytes_at b o 26)) place)
-    ∙ zero_records b 26 (32 - n) (at + n * 26))
+note-bytes : (b : List ℕ) (i j : ℕ) → i < 32 → j < 32 → note_field b i j ≡ bytes_at (slot_notes b i) (j * 26) 26
+unfolding cut_board
+note-bytes b i j h l =
+    let place : 23824 + (32 * i + j) * 26 ≡ 23824 + i * 832 + j * 26 = omega arith in
+    piece_at b 26 note_count 23824 (32 * i + j) (omega arith) ∙ ap (λ (at : ℕ). bytes_at b at 26) place
+    ∙ sym (bytes_at-bytes_at b (23824 + i * 832) 832 (j * 26) 26 (omega arith))
 
--- and all of them where there is no request
-empty-notes : (b : List ℕ) (i : ℕ) → i < 32 → length b ≡ board_size → {row : ℕ} → row ≡ 0
-    → all_below 32 (note_by b row i) ≡ all_zero (bytes_at b (23824 + i * 832) 832)
-unfolding all_below
-empty-notes b i h l {row} z =
-    notes-behind b i row 0 h l (omega arith) (omega arith) ∙ ap (λ (o : ℕ). all_zero (bytes_at b o 832)) (add-zero (23824 + i * 832))
+notes-slot : (b : List ℕ) (row i : ℕ) → i < 32 → all_below 32 (note_by b row i) ≡ notes_fit (slot_notes b i) row
+unfolding note_allowed
+notes-slot b row i h =
+    below-same 32 (note_by b row i) (note_allowed (slot_notes b i) row)
+    (λ j l. ap (note_within (bit_at row j * note_limit)) (note-bytes b i j h l))
 
 -- ---- the clauses about notes
 
@@ -195,23 +238,61 @@ all_notes b =
     below_both 32 (fields_to i) (requested_to b i)
     ∙ below-same 32 (λ (j : ℕ). fields_to i j && requested_to b i j) (note_by b (requests_to b i) i) (λ j l. one-note b i j))
 
-module _ (b : List ℕ) (h : BoardWithinLimits b) {n : ℕ} (e : n ≡ user_count (cut_board b)) where
+module _ (board : CountedBoard) where
+  abbrev b : List ℕ
+  b = board.bytes.now
+
+  abbrev n : ℕ
+  n = length board.users.now
+
   no_requests : (i : ℕ) → n ≤ i → requests_to b i ≡ 0
   unfolding user_at
-  no_requests i l = ap (λ (u : User). u.requests) (get_or-eq_default (decode b).users no_user (let k = count-users b h e in omega arith))
+  no_requests i l = ap (λ (u : User). u.requests) (get_or-eq_default (decode b).users no_user (let k = decoded-count board in omega arith))
+
+  slot-size : (i : ℕ) → i < 32 → length (slot_notes b i) ≡ 832
+  slot-size i h = let size = board.within.0 in length-bytes_at b (23824 + i * 832) 832 (omega arith)
+
+  -- the notes to the user in slot i
+  abbrev pub user_notes_fit : ℕ → Bool
+  user_notes_fit i = notes_fit (slot_notes b i) (request_row board.users.now i)
 
   -- the notes to users by their rows, and those to unused slots as one run
   pub notes-clause : (for_all (is_string_field note_limit) (cut_board b).notes && notes_requested (decode b))
-      ≡ (all_below n (notes_fit b) && all_zero (bytes_at b (23824 + n * 832) ((32 - n) * 832)))
-  unfolding note_allowed
+      ≡ (all_below n user_notes_fit && all_zero (bytes_at b (23824 + n * 832) ((32 - n) * 832)))
   notes-clause =
-      let w = within-limits (cut_board b) h.1 in
+      let w = (used-limits board).0 in
       let s : 32 ≡ n + (32 - n) = omega arith in
       let fit : ℕ → Bool = λ i. all_below 32 (note_by b (requests_to b i) i) in
       all_notes b ∙ ap (λ (k : ℕ). all_below k fit) s ∙ below_plus fit n (32 - n)
-      ∙ ap₂ ◌&&◌ (below-same n fit (notes_fit b) (λ i l. ap (λ (row : ℕ). all_below 32 (note_by b row i)) (requests_at b h e i l)))
+      ∙ ap₂ ◌&&◌
+      (below-same n fit user_notes_fit (λ i l.
+      ap (λ (row : ℕ). all_below 32 (note_by b row i)) (ap (λ (u : User). u.requests) (user-decoded board i))
+      ∙ notes-slot b (request_row board.users.now i) i (omega arith)))
       (below-same (32 - n) (λ (k : ℕ). fit (n + k)) (λ (k : ℕ). all_zero (bytes_at b (23824 + n * 832 + k * 832) 832))
       (λ k l.
       let place : 23824 + (n + k) * 832 ≡ 23824 + n * 832 + k * 832 = omega arith in
-      empty-notes b (n + k) (omega arith) h.0 (no_requests (n + k) (omega arith)) ∙ ap (λ (at : ℕ). all_zero (bytes_at b at 832)) place)
+      notes-slot b (requests_to b (n + k)) (n + k) (omega arith)
+      ∙ empty-notes (slot_notes b (n + k)) (slot-size (n + k) (omega arith)) (no_requests (n + k) (omega arith))
+      ∙ ap (λ (at : ℕ). all_zero (bytes_at b at 832)) place)
       ∙ zero_records b 832 (32 - n) (23824 + n * 832))
+
+  -- the users in turn, each with the notes to its slot
+  pub users-with-notes : {slots : List (List ℕ)} → slots ≡ records_at b 23824 832 32
+      → list_all (λ p. notes_fit p.1 (decode_user p.0).requests) (zip board.users.now slots) ≡ all_below n user_notes_fit
+  users-with-notes {slots} e =
+      let users : List (List ℕ) = board.users.now in
+      let w = (used-limits board).0 in
+      let count : length slots ≡ 32 = ap length e ∙ length_records b 832 32 23824 in
+      let fits : List ℕ × List ℕ → Bool = λ p. notes_fit p.1 (decode_user p.0).requests in
+      all_elements fits (zip users slots)
+      ∙ all_below_lem fits (zip users slots) ([], []) (λ (i : ℕ). (get_or users i [], get_or slots i []))
+      (length-zip users slots ∙ (omega arith)) (λ i h. get_or-zip users slots i ([], []) h (omega arith))
+      ∙ below-same n (λ (i : ℕ). notes_fit (get_or slots i []) (request_row users i)) user_notes_fit
+      (λ i h. ap (λ (s : List ℕ). notes_fit s (request_row users i)) (ap (λ (ss : List (List ℕ)). get_or ss i []) e ∙ piece_at b 832 32 23824 i (omega arith)))
+
+  -- the slots of users, and the others as one run
+  pub used-slots : {slots : List (List ℕ)} → slots ≡ records_at b 23824 832 32 → length (take n slots) ≡ n
+  used-slots {slots} e = let w = (used-limits board).0 in let count = ap length e ∙ length_records b 832 32 23824 in length-take-le n slots (omega arith)
+
+  pub unused-slots : for_all all_zero (drop n (records_at b 23824 832 32)) ≡ all_zero (bytes_at b (23824 + n * 832) ((32 - n) * 832))
+  unused-slots = ap (for_all all_zero) (drop-table b 832 32 23824 n (used-limits board).0) ∙ zero-pieces b 832 (32 - n) (23824 + n * 832)

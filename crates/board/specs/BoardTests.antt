@@ -5,11 +5,10 @@ use Rattle.layout.specs.StringFields.{stated_length, is_string_field}
 use Rattle.layout.specs.Bits.{bit_at, has_bit}
 use Rattle.reader.specs.Fields.{note_limit, number_in}
 use Rattle.model.specs.Lists.{for_all}
-use Rattle.model.specs.State.{user_limit}
 use Rattle.model.specs.Board.{board_size, BoardRecords, decode_user, cut_board, user_count, post_count, pending_count}
 use Rattle.model.specs.Soundness.{counts_within_limits, user_strings, post_strings, pending_strings}
 
--- what the parts require: the board has its length, and its counts are within limits
+-- what a counted board has: its length, and counts within their limits
 abbrev pub BoardWithinLimits : List ℕ → Type 0
 BoardWithinLimits b = (length b ≡ board_size) × (counts_within_limits (cut_board b) ≡ true)
 
@@ -18,6 +17,16 @@ BoardWithinLimits b = (length b ≡ board_size) × (counts_within_limits (cut_bo
 -- n records of one size, one behind the other from a base on
 abbrev pub records_at : List ℕ → ℕ → ℕ → ℕ → List (List ℕ)
 records_at b base size n = pieces (replicate n size) base b
+
+-- the used records of each table
+abbrev pub used_users : List ℕ → List (List ℕ)
+used_users b = take (user_count (cut_board b)) (cut_board b).users
+
+abbrev pub used_posts : List ℕ → List (List ℕ)
+used_posts b = take (post_count (cut_board b)) (cut_board b).posts
+
+abbrev pub used_pending : List ℕ → List (List ℕ)
+used_pending b = take (pending_count (cut_board b)) (cut_board b).pending
 
 -- the field at a place of a record holds a string
 unfoldable pub holds_string : ℕ → ℕ → List ℕ → Bool
@@ -48,25 +57,22 @@ filter_covers place filter xs = for_all (λ (x : ℕ). has_bit filter (place x))
 
 -- ---- rows and notes
 
--- the rows of slot i, used or not
-abbrev pub friend_row : List ℕ → ℕ → ℕ
-friend_row b i = (decode_user (get_or (cut_board b).users i [])).friends
+-- the rows of slot i, where the users' records stand in a list
+abbrev pub friend_row : List (List ℕ) → ℕ → ℕ
+friend_row users i = (decode_user (get_or users i [])).friends
 
-abbrev pub request_row : List ℕ → ℕ → ℕ
-request_row b i = (decode_user (get_or (cut_board b).users i [])).requests
+abbrev pub request_row : List (List ℕ) → ℕ → ℕ
+request_row users i = (decode_user (get_or users i [])).requests
 
 -- slot i has slot j as a friend exactly if slot j has slot i
-unfoldable pub symmetric_at : List ℕ → ℕ → ℕ → Bool
-symmetric_at b i j = eqb (bit_at (friend_row b i) j) (bit_at (friend_row b j) i)
-
--- the field of the note to slot i from slot j, which "is number 32 × i + j"
-abbrev pub note_field : List ℕ → ℕ → ℕ → List ℕ
-note_field b i j = get_or (cut_board b).notes (user_limit * i + j) []
+unfoldable pub symmetric_at : List (List ℕ) → ℕ → ℕ → Bool
+symmetric_at users i j = eqb (bit_at (friend_row users i) j) (bit_at (friend_row users j) i)
 
 -- a field is a note of at most `most` bytes
 unfoldable pub note_within : ℕ → List ℕ → Bool
 note_within most f = leb (stated_length f) most && is_string_field note_limit f
 
--- the note to slot i from slot j is a string within its limit, and empty without its request bit
+-- of the 32 notes to a slot with this request row, one behind the other: the one from slot j is a string within its limit, and empty without
+-- its request bit
 unfoldable pub note_allowed : List ℕ → ℕ → ℕ → Bool
-note_allowed b i j = note_within (bit_at (request_row b i) j * note_limit) (note_field b i j)
+note_allowed slot row j = note_within (bit_at row j * note_limit) (bytes_at slot (j * 26) 26)

@@ -1,130 +1,98 @@
 // The clauses about friend rows and request rows.
-ghost use Rattle.std.specs.Prelude.{◌≡◌, ◌&&◌, ◌<◌, length};
+ghost use Rattle.std.specs.Prelude.{◌≡◌, ◌&&◌, ◌<◌, ◌≤◌, length};
 ghost use Rattle.model.specs.Lists.{all_below};
 ghost use Rattle.model.specs.State.{user_limit};
-ghost use Rattle.model.specs.Board.{board_size, decode};
+ghost use Rattle.model.specs.Board.{decode, decode_user};
 ghost use Rattle.model.specs.Soundness.{friends_symmetric, no_own_bit, bits_below_count, friends_not_requested};
-ghost use Rattle.board.specs.BoardTests.{BoardWithinLimits, friend_row, request_row, symmetric_at};
+ghost use Rattle.board.specs.BoardTests.{symmetric_at};
 
-use crate::header::user_count;
-use crate::{USER_FRIENDS, USER_REQUESTS, USER_SIZE, USERS};
+use crate::counted::CountedBoard;
+use crate::{USER_FRIENDS, USER_REQUESTS, USER_SIZE};
 use layout::bits::has_bit;
 use layout::number::read_u32;
 
-// The rows of slot i.
-pub(crate) fn friend_row(b: &[u8], i: usize) -> u32
-    requires { (i < user_limit) × (length b.now ≡ board_size) }
-    ensures { result ≡ friend_row b.now i }
+// The rows of a user: a function for each, since with the place as a parameter the calls would say less.
+pub(crate) fn friend_row(user: &[u8; USER_SIZE]) -> u32
+    ensures { result ≡ (decode_user user.now).friends }
 {
-    read_u32(b, USERS + i * USER_SIZE + USER_FRIENDS)
+    read_u32(user, USER_FRIENDS)
 }
 
-pub(crate) fn request_row(b: &[u8], i: usize) -> u32
-    requires { (i < user_limit) × (length b.now ≡ board_size) }
-    ensures { result ≡ request_row b.now i }
+pub(crate) fn request_row(user: &[u8; USER_SIZE]) -> u32
+    ensures { result ≡ (decode_user user.now).requests }
 {
-    read_u32(b, USERS + i * USER_SIZE + USER_REQUESTS)
+    read_u32(user, USER_REQUESTS)
 }
 
 // Whether slot i is a friend of each slot before it exactly if that one is a friend of slot i. Row i is shifted by one bit for each slot, so
 // that the two bits stand lowest; the loop gathers whole rows, of which only the lowest bit counts, and never leaves early.
-fn symmetric_row(b: &[u8], i: usize) -> bool
-    requires { (i < user_limit) × (length b.now ≡ board_size) }
-    ensures { result ≡ all_below i (symmetric_at b.now i) }
+fn symmetric_row(users: &[[u8; USER_SIZE]], i: usize) -> bool
+    requires { (i < length users.now) × (length users.now ≤ user_limit) }
+    ensures { result ≡ all_below i (symmetric_at users.now i) }
 {
-    let mut rest = friend_row(b, i);
+    let mut rest = friend_row(&users[i]);
     let mut differing: u32 = 0;
-    let mut j = 0;
-    while j < i {
-        differing = differing | (rest ^ (friend_row(b, j) >> i));
+    for j in 0..i {
+        differing = differing | (rest ^ (friend_row(&users[j]) >> i));
         rest = rest >> 1;
-        j += 1;
     }
     differing % 2 == 0
 }
 
 // "friend rows are symmetric"
-fn friends_symmetric(b: &[u8]) -> bool
-    requires { BoardWithinLimits b.now }
-    ensures { result ≡ friends_symmetric (decode b.now) }
+fn friends_symmetric(board: &CountedBoard) -> bool
+    ensures { result ≡ friends_symmetric (decode board.now.bytes.now) }
 {
-    let n = user_count(b);
-    let mut i = 0;
-    while i < n {
-        if !symmetric_row(b, i) {
+    for i in 0..board.users.len() {
+        if !symmetric_row(board.users, i) {
             return false;
         }
-        i += 1;
     }
     true
 }
 
 // "neither row has its own bit .."
-fn no_own_bit(b: &[u8]) -> bool
-    requires { BoardWithinLimits b.now }
-    ensures { result ≡ no_own_bit (decode b.now) }
+fn no_own_bit(board: &CountedBoard) -> bool
+    ensures { result ≡ no_own_bit (decode board.now.bytes.now) }
 {
-    let n = user_count(b);
-    let mut i = 0;
-    while i < n {
-        if has_bit(friend_row(b, i), i) {
+    for (i, user) in board.users.iter().enumerate() {
+        if has_bit(friend_row(user), i) || has_bit(request_row(user), i) {
             return false;
         }
-        if has_bit(request_row(b, i), i) {
-            return false;
-        }
-        i += 1;
     }
     true
 }
 
 // ".. or a bit at or above n". With 32 users a row of 32 bits cannot be shifted by n: it is widened before.
-fn bits_below_count(b: &[u8]) -> bool
-    requires { BoardWithinLimits b.now }
-    ensures { result ≡ bits_below_count (decode b.now) }
+fn bits_below_count(board: &CountedBoard) -> bool
+    ensures { result ≡ bits_below_count (decode board.now.bytes.now) }
 {
-    let n = user_count(b);
-    let mut i = 0;
-    while i < n {
-        if (friend_row(b, i) as u64) >> n != 0 {
+    let n = board.users.len();
+    for user in board.users {
+        if (friend_row(user) as u64) >> n != 0 || (request_row(user) as u64) >> n != 0 {
             return false;
         }
-        if (request_row(b, i) as u64) >> n != 0 {
-            return false;
-        }
-        i += 1;
     }
     true
 }
 
 // "Friends with a request between them are no longer a sound board".
-fn friends_not_requested(b: &[u8]) -> bool
-    requires { BoardWithinLimits b.now }
-    ensures { result ≡ friends_not_requested (decode b.now) }
+fn friends_not_requested(board: &CountedBoard) -> bool
+    ensures { result ≡ friends_not_requested (decode board.now.bytes.now) }
 {
-    let n = user_count(b);
-    let mut i = 0;
-    while i < n {
-        if friend_row(b, i) & request_row(b, i) != 0 {
+    for user in board.users {
+        if friend_row(user) & request_row(user) != 0 {
             return false;
         }
-        i += 1;
     }
     true
 }
 
-pub(crate) fn friends_sound(b: &[u8]) -> bool
-    requires { BoardWithinLimits b.now }
-    ensures { result ≡ (friends_symmetric (decode b.now) && (no_own_bit (decode b.now) && (bits_below_count (decode b.now) && friends_not_requested (decode b.now)))) }
+pub(crate) fn friends_sound(board: &CountedBoard) -> bool
+    ensures { let state = decode board.now.bytes.now in result ≡ (friends_symmetric state && (no_own_bit state && (bits_below_count state && friends_not_requested state))) }
 {
-    if !friends_symmetric(b) {
-        return false;
-    }
-    if !no_own_bit(b) {
-        return false;
-    }
-    if !bits_below_count(b) {
-        return false;
-    }
-    friends_not_requested(b)
+    friends_symmetric(board)
+        && no_own_bit(board)
+        && bits_below_count(board)
+        && friends_not_requested(board)
 }

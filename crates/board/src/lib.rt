@@ -1,8 +1,8 @@
 // The soundness test of a board, by the clauses of "A board is sound if ..".
 #![tactic(auto)]
 
+mod counted;
 mod friends;
-mod header;
 mod notes;
 mod numbers;
 mod posts;
@@ -12,8 +12,8 @@ mod tables;
 ghost use Rattle.std.specs.Prelude.{◌≡◌};
 ghost use Rattle.model.specs.Soundness.{is_sound};
 
+use crate::counted::CountedBoard;
 use crate::friends::friends_sound;
-use crate::header::{counts_within_limits, user_count};
 use crate::notes::notes_sound;
 use crate::numbers::numbers_sound;
 use crate::posts::posts_sound;
@@ -86,26 +86,15 @@ pub const PENDING_FILLER: usize = 30;
 pub fn sound(board: &[u8]) -> bool
     ensures { result ≡ is_sound board.now }
 {
-    if board.len() != BOARD_SIZE {
+    let Some(counted) = CountedBoard::new(board) else {
         return false;
-    }
-    if user_count(board) == 0 {
+    };
+    if counted.users.is_empty() {
         return all_zero(board, 0, BOARD_SIZE);
     }
-    if !counts_within_limits(board) {
-        return false;
-    }
-    if !records_sound(board) {
-        return false;
-    }
-    if !numbers_sound(board) {
-        return false;
-    }
-    if !friends_sound(board) {
-        return false;
-    }
-    if !notes_sound(board) {
-        return false;
-    }
-    posts_sound(board)
+    records_sound(&counted)
+        && numbers_sound(&counted)
+        && friends_sound(&counted)
+        && notes_sound(&counted)
+        && posts_sound(&counted)
 }

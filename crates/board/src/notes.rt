@@ -1,76 +1,67 @@
 // The notes of requests: each holds a string, and is zero without its request bit.
-ghost use Rattle.std.specs.Prelude.{◌≡◌, ◌&&◌, ◌+◌, ◌<◌, ◌≤◌, length};
-ghost use Rattle.layout.specs.Bytes.{bytes_at};
+ghost use Rattle.std.specs.Prelude.{◌≡◌, ◌&&◌, ◌≤◌, length};
 ghost use Rattle.layout.specs.StringFields.{is_string_field};
 ghost use Rattle.reader.specs.Fields.{note_limit};
 ghost use Rattle.model.specs.Lists.{for_all, all_below};
 ghost use Rattle.model.specs.State.{user_limit};
-ghost use Rattle.model.specs.Board.{board_size, cut_board, decode};
+ghost use Rattle.model.specs.Board.{cut_board, decode};
 ghost use Rattle.model.specs.Soundness.{notes_requested};
-ghost use Rattle.board.specs.BoardTests.{BoardWithinLimits, note_within, note_allowed};
+ghost use Rattle.board.specs.BoardTests.{note_within, note_allowed};
 
+use crate::counted::CountedBoard;
 use crate::friends::request_row;
-use crate::header::user_count;
+use crate::tables::{records, unused_zero};
 use crate::{NOTE_SIZE, NOTES, SLOT_NOTES_SIZE, USER_LIMIT};
+use layout::bits::bit_at;
 use layout::number::{read_u16, read_u64};
-use layout::range::lesser;
 use layout::run::all_zero;
 use reader::NOTE_LIMIT;
 
-// Whether a note of at most `most` bytes stands at a place. Three words reach from the end of the string to that of the field and may
+// Whether a note of at most `most` bytes stands in a field. Three words reach from the end of the string to that of the field and may
 // overlap; where fewer than eight bytes are left, all three are the field's last word, with the string's last bytes in front. These, at most
 // eight, are shifted out by two halves, as in `fits_width`, which would test for each note that they are not more.
-fn is_note(b: &[u8], at: usize, most: usize) -> bool
-    requires { (most ≤ note_limit) × (at + 26 ≤ length b.now) }
-    ensures { result ≡ note_within most (bytes_at b.now at 26) }
+fn is_note(field: &[u8; NOTE_SIZE], most: usize) -> bool
+    requires { most ≤ note_limit }
+    ensures { result ≡ note_within most field.now }
 {
-    let n = read_u16(b, at) as usize;
+    let n = read_u16(field, 0) as usize;
     if most < n {
         return false;
     }
-    let first = lesser(n, 16);
-    let word = read_u64(b, at + 2 + first)
-        | read_u64(b, at + 10 + first / 2)
-        | read_u64(b, at + 18);
+    let first = n.min(16);
+    let word = read_u64(field, 2 + first) | read_u64(field, 10 + first / 2) | read_u64(field, 18);
     let half = 4 * (n - first);
     (word >> half) >> half == 0
 }
 
-// The 32 notes to slot i: behind the last request bit they are one run. Without its bit a note may have 0 bytes, so all 26 are zero. The row
-// is shifted by one bit for each note, and when nothing is left of it the last bit has been met.
-fn notes_to(b: &[u8], i: usize) -> bool
-    requires { (i < user_limit) × (length b.now ≡ board_size) }
-    ensures { result ≡ all_below user_limit (note_allowed b.now i) }
+// The 32 notes to a slot with this request row: behind the last request bit they are one run. Without its bit a note may have 0 bytes, so all
+// 26 are zero.
+fn notes_to(slot: &[u8; SLOT_NOTES_SIZE], row: u32) -> bool
+    ensures { result ≡ all_below user_limit (note_allowed slot.now row) }
 {
-    let at = NOTES + i * SLOT_NOTES_SIZE;
-    let mut rest = request_row(b, i);
-    let mut j = 0;
-    while rest != 0 {
-        if !is_note(b, at + j * NOTE_SIZE, (rest % 2) as usize * NOTE_LIMIT) {
+    let (fields, _) = slot.as_chunks::<NOTE_SIZE>();
+    let requested = (u32::BITS - row.leading_zeros()) as usize;
+    for (j, field) in fields[..requested].iter().enumerate() {
+        if !is_note(field, bit_at(row, j) as usize * NOTE_LIMIT) {
             return false;
         }
-        rest = rest >> 1;
-        j += 1;
     }
-    all_zero(b, at + j * NOTE_SIZE, (USER_LIMIT - j) * NOTE_SIZE)
+    all_zero(
+        slot,
+        requested * NOTE_SIZE,
+        (USER_LIMIT - requested) * NOTE_SIZE,
+    )
 }
 
 // "string lengths are within their limits, bytes past them zero", of notes, and "a note without its request bit is zero".
-pub(crate) fn notes_sound(b: &[u8]) -> bool
-    requires { BoardWithinLimits b.now }
-    ensures { result ≡ (for_all (is_string_field note_limit) (cut_board b.now).notes && notes_requested (decode b.now)) }
+pub(crate) fn notes_sound(board: &CountedBoard) -> bool
+    ensures { result ≡ (for_all (is_string_field note_limit) (cut_board board.now.bytes.now).notes && notes_requested (decode board.now.bytes.now)) }
 {
-    let n = user_count(b);
-    let mut i = 0;
-    while i < n {
-        if !notes_to(b, i) {
-            return false;
-        }
-        i += 1;
-    }
-    all_zero(
-        b,
-        NOTES + n * SLOT_NOTES_SIZE,
-        (USER_LIMIT - n) * SLOT_NOTES_SIZE,
-    )
+    let slots = records::<SLOT_NOTES_SIZE>(board.bytes, NOTES, USER_LIMIT);
+    board
+        .users
+        .iter()
+        .zip(slots)
+        .all(|(user, slot)| notes_to(slot, request_row(user)))
+        && unused_zero(board.bytes, NOTES, USER_LIMIT, &slots[..board.users.len()])
 }

@@ -2,35 +2,27 @@
 ghost use Rattle.std.specs.Prelude.{◌≡◌, ◌&&◌};
 ghost use Rattle.model.specs.Board.{decode};
 ghost use Rattle.model.specs.Soundness.{owners_registered, visibility_valid};
-ghost use Rattle.board.specs.BoardTests.{BoardWithinLimits};
 
-use crate::header::{post_count, user_count};
+use crate::counted::CountedBoard;
 use crate::tables::numbers_below;
-use crate::{POST_OWNER, POST_SIZE, POST_VISIBILITY, POSTS};
+use crate::{POST_OWNER, POST_VISIBILITY};
 
 // "owners' slots are below n"
-fn owners_registered(b: &[u8]) -> bool
-    requires { BoardWithinLimits b.now }
-    ensures { result ≡ owners_registered (decode b.now) }
+fn owners_registered(board: &CountedBoard) -> bool
+    ensures { result ≡ owners_registered (decode board.now.bytes.now) }
 {
-    let m = post_count(b);
-    numbers_below(b, POSTS, POST_SIZE, m, POST_OWNER, user_count(b))
+    numbers_below(board.posts, POST_OWNER, board.users.len())
 }
 
 // "visibility is 0 or 1"
-fn visibility_valid(b: &[u8]) -> bool
-    requires { BoardWithinLimits b.now }
-    ensures { result ≡ visibility_valid (decode b.now) }
+fn visibility_valid(board: &CountedBoard) -> bool
+    ensures { result ≡ visibility_valid (decode board.now.bytes.now) }
 {
-    numbers_below(b, POSTS, POST_SIZE, post_count(b), POST_VISIBILITY, 2)
+    numbers_below(board.posts, POST_VISIBILITY, 2)
 }
 
-pub(crate) fn posts_sound(b: &[u8]) -> bool
-    requires { BoardWithinLimits b.now }
-    ensures { result ≡ (owners_registered (decode b.now) && visibility_valid (decode b.now)) }
+pub(crate) fn posts_sound(board: &CountedBoard) -> bool
+    ensures { let state = decode board.now.bytes.now in result ≡ (owners_registered state && visibility_valid state) }
 {
-    if !owners_registered(b) {
-        return false;
-    }
-    visibility_valid(b)
+    owners_registered(board) && visibility_valid(board)
 }

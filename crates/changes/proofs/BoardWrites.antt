@@ -1,6 +1,6 @@
 -- Writes one behind the other, each within the board: what the code has written last is the patch of what it had before.
 use Prim.Native.Nat.{ℕ, ◌+◌, ◌*◌, ◌≤◌}
-use mathlib.Core.Path.{◌≡◌, refl, ap, ap₂, ◌∙◌}
+use mathlib.Core.Path.{◌≡◌, ap, ap₂, ◌∙◌}
 use mathlib.Core.List.{List}
 use mathlib.Core.Bool.{true}
 use lib.ListN.{length, replicate, length-replicate}
@@ -10,8 +10,8 @@ use Rattle.layout.specs.StringFields.{is_string, string_field, write_string}
 use Rattle.layout.proofs.NumberLaws.{length_to}
 use Rattle.layout.proofs.ByteLaws.{write-within}
 use Rattle.layout.proofs.StringFieldLaws.{string-within}
-use Rattle.reader.specs.Fields.{number_in}
 use Rattle.model.proofs.ChangeWrites.{bit_written, friends_written}
+use Rattle.changes.specs.Rows.{BitChanged, FriendsChanged}
 
 -- x is the board before the write, b that board as the code has it, and the code writes at the place `at`
 module _ {x b after : List ℕ} (e : b ≡ x) (place : ℕ) {at : ℕ} (p : at ≡ place) where
@@ -33,14 +33,11 @@ module _ {x b after : List ℕ} (e : b ≡ x) (place : ℕ) {at : ℕ} (p : at �
   pub then_bit : (f : ℕ → ℕ → ℕ) (j : ℕ) → after ≡ bit_written f b at j → after ≡ bit_written f x place j
   then_bit f j w = w ∙ ap₂ (λ (c : List ℕ) (i : ℕ). bit_written f c i j) e p
 
--- the friend rows of slots i and j changed by f one after the other, each at the place of its slot
-pub then_friends : (f : ℕ → ℕ → ℕ) (b : List ℕ) (i j : ℕ) {one both : List ℕ} {at at2 : ℕ} → at ≡ 16 + i * 104 + 12 → one ≡ bit_written f b at j
-    → at2 ≡ 16 + j * 104 + 12 → both ≡ bit_written f one at2 i → both ≡ friends_written f b i j
-then_friends f b i j p w q v = then_bit (then_bit refl (16 + i * 104 + 12) p f j w) (16 + j * 104 + 12) q f i v
+-- the row and the friend rows that a function has changed that computes f
+module _ (f : ℕ → ℕ → ℕ) where
+  pub bit-changed : (old : List ℕ) (at j : ℕ) {new : List ℕ} → BitChanged (λ row k x. x ≡ f row k) old at j new → new ≡ bit_written f old at j
+  bit-changed old at j (x, e, w) = w ∙ ap (λ (y : ℕ). patch old at (to_le_bytes 4 y)) e
 
--- a row read, its bit j changed by f, and written back at its place
-pub row-changed : (f : ℕ → ℕ → ℕ) (b : List ℕ) (at j : ℕ) {row x : ℕ} {after : List ℕ} → at + 4 ≤ length b → row ≡ number_in b at 4 → x ≡ f row j
-    → after ≡ write_at b at (to_le_bytes 4 x) → after ≡ bit_written f b at j
-row-changed f b at j {x = x} h r e w =
-    w ∙ write-within b at (to_le_bytes 4 x) (length_to 4 x) h
-    ∙ ap (λ (y : ℕ). patch b at (to_le_bytes 4 y)) (e ∙ ap (λ (y : ℕ). f y j) r)
+  pub friends-changed : (old : List ℕ) (i j : ℕ) {new : List ℕ} → FriendsChanged (λ row k x. x ≡ f row k) old i j new → new ≡ friends_written f old i j
+  friends-changed old i j (one, first, second) =
+      bit-changed _ _ _ second ∙ ap (λ (b : List ℕ). bit_written f b (16 + j * 104 + 12) i) (bit-changed _ _ _ first)

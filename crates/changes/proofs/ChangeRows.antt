@@ -5,15 +5,18 @@ use mathlib.Core.List.{List, [], ◌∷◌, ◌++◌}
 use mathlib.Core.Bool.{Bool, true, false}
 use mathlib.Core.Option.{some, some-ne-none}
 use lib.ListN.{drop}
+use Rattle.std.specs.Prelude.{Result, IsErrAnd}
+use Rattle.access.specs.Refusals.{refusal_number}
+use Rattle.access.specs.declared.refusals.Refusal.{Refusal}
 use Rattle.model.specs.Board.{decode}
 use Rattle.model.specs.Actions.{Cause, Change}
 use Rattle.model.specs.Refusals.{cause_number, RefusalRow, change_refusals, first_cause, first_number}
 use Rattle.model.specs.Changes.{apply_change}
 use Rattle.model.proofs.BoardTheorems.{Encodes}
 use Rattle.model.proofs.RefusalTheorems.{no_cause}
-use Rattle.changes.specs.ChangeResults.{changed, change_result}
-use Rattle.access.proofs.RefusalLaws.{row_applies, row-passes, rows_pass, rows_refuse}
-use Rattle.changes.proofs.ChangeLaws.{change-refused, change-accepted}
+use Rattle.changes.specs.ChangeResults.{returned, changed, change_result}
+use Rattle.access.proofs.RefusalLaws.{row_applies, row-passes, rows_pass, earlier_refuse}
+use Rattle.changes.proofs.ChangeLaws.{change-refused, change-handed_up, change-accepted}
 
 -- the rows left of those of a change, behind rows that do not apply
 pub record RowsLeft (b : List ℕ) (c : Change) (rows : List RefusalRow) : Type 0 where
@@ -29,22 +32,23 @@ all_rows b c = record { same_number = refl }
 module _ {b : List ℕ} {c : Change} where
   -- the next row
   module _ {cause : Cause} {t : Bool} {rows : List RefusalRow} (left : RowsLeft b c ((cause, t) ∷ rows)) where
-    pub refused-here : t ≡ true → changed (cause_number cause) b ≡ change_result b c
+    pub refused-here : t ≡ true → returned (cause_number cause) b ≡ change_result b c
     refused-here e =
         change-refused b c (sym (row_applies cause rows e) ∙ left.same_number) (λ z. some-ne-none cause (no_cause (some cause) z))
 
     pub passed_here : t ≡ false → RowsLeft b c rows
     passed_here e = record { same_number = sym (row-passes cause rows e) ∙ left.same_number }
 
-  -- several rows first, whose number a function has returned
-  module _ (first rest : List RefusalRow) (left : RowsLeft b c (first ++ rest)) {number : ℕ} (e : number ≡ first_number first) where
-    pub refused_first : (number ≡ 0 → ⊥) → changed number b ≡ change_result b c
-    refused_first n = change-refused b c (e ∙ sym (rows_refuse first rest (λ z. n (e ∙ z))) ∙ left.same_number) n
+  -- several rows first, which a function has tested: its refusal handed up, or none
+  module _ (first rest : List RefusalRow) (left : RowsLeft b c (first ++ rest)) where
+    pub refused_first : {A : Type 0} (up : Result A Refusal) (r : Refusal) → IsErrAnd up (λ x. x ≡ r) → refusal_number r ≡ first_number first
+        → changed up b ≡ change_result b c
+    refused_first up r h e = change-handed_up b c up r h (earlier_refuse first rest r e ∙ left.same_number)
 
-    pub passed_first : number ≡ 0 → RowsLeft b c rest
-    passed_first z = record { same_number = sym (rows_pass first rest (sym e ∙ z)) ∙ left.same_number }
+    pub passed_first : 0 ≡ first_number first → RowsLeft b c rest
+    passed_first e = record { same_number = sym (rows_pass first rest (sym e)) ∙ left.same_number }
 
   -- no row is left, and x is the board that the code has written
-  pub accepted-here : {after x : List ℕ} → RowsLeft b c [] → after ≡ x → Encodes x (apply_change (decode b) c) → changed 0 after ≡ change_result b c
+  pub accepted-here : {after x : List ℕ} → RowsLeft b c [] → after ≡ x → Encodes x (apply_change (decode b) c) → returned 0 after ≡ change_result b c
   unfolding first_number first_cause
-  accepted-here left e w = change-accepted b c left.same_number refl e w
+  accepted-here left e w = change-accepted b c left.same_number e w

@@ -1,1 +1,2 @@
 pub mod ChangeResults
+pub mod Rows

@@ -9,20 +9,19 @@ ghost use Rattle.model.proofs.ChangeWrites.{user_added, pending_added, post_adde
 ghost use Rattle.model.proofs.SoundnessTheorems.{SoundState};
 ghost use Rattle.changes.specs.ChangeResults.{changed, change_result};
 
-use crate::rows::{add_friends, remove_requests, requests_at, set_row_bit};
-use access::lookups::{
-    are_friends, has_requested, is_pending, is_post, is_registered, pending_place, user_slot,
-};
-use access::records::{note_at, pending_count, post_count, user_count};
-use access::refusals::{login_refusal, pending_refusal, user_refusal};
+use crate::rows::{change_bit, change_friends, remove_requests};
+use access::records::note_at;
+use access::refusals::Refusal;
+use access::sound_board::SoundBoard;
+use access::tables::Table;
 use board::{
     HEADER_PENDING, HEADER_POSTS, HEADER_USERS, PENDING, PENDING_LIMIT, PENDING_NOTE, PENDING_SIZE,
-    POST_LIMIT, POST_OWNER, POST_SIZE, POST_TITLE, POSTS, USER_LIMIT, USER_PASSWORD, USER_SIZE,
-    USERS,
+    POST_LIMIT, POST_OWNER, POST_SIZE, POST_TITLE, POSTS, USER_LIMIT, USER_PASSWORD, USER_REQUESTS,
+    USER_SIZE, USERS,
 };
-use layout::number::{write_u16, write_u32, write_u64};
+use layout::bits::set_bit;
+use layout::number::write_number;
 use layout::string::write_string;
-use layout::table::remove_record;
 use reader::{Login, NOTE_LIMIT, TITLE_LIMIT};
 
 // A record is added at place n, where all bytes are zero: its table's count is written, then the fields that are not zero.
@@ -31,9 +30,9 @@ fn add_user(board: &mut [u8], n: usize, u: u32, password: u64)
     ensures { board.new ≡ user_added board.old n u password }
 {
     let at = USERS + n * USER_SIZE;
-    write_u16(board, HEADER_USERS, (n + 1) as u16);
-    write_u32(board, at, u);
-    write_u64(board, at + USER_PASSWORD, password);
+    write_number(board, HEADER_USERS, 2, (n + 1) as u64);
+    write_number(board, at, 4, u as u64);
+    write_number(board, at + USER_PASSWORD, 8, password);
 }
 
 fn add_pending(board: &mut [u8], n: usize, u: u32, note: &[u8])
@@ -41,8 +40,8 @@ fn add_pending(board: &mut [u8], n: usize, u: u32, note: &[u8])
     ensures { board.new ≡ pending_added board.old n u note.now }
 {
     let at = PENDING + n * PENDING_SIZE;
-    write_u16(board, HEADER_PENDING, (n + 1) as u16);
-    write_u32(board, at, u);
+    write_number(board, HEADER_PENDING, 2, (n + 1) as u64);
+    write_number(board, at, 4, u as u64);
     write_string(board, at + PENDING_NOTE, NOTE_LIMIT, note);
 }
 
@@ -51,129 +50,108 @@ fn add_post(board: &mut [u8], n: usize, number: u32, owner: usize, title: &[u8])
     ensures { board.new ≡ post_added board.old n number owner title.now }
 {
     let at = POSTS + n * POST_SIZE;
-    write_u16(board, HEADER_POSTS, (n + 1) as u16);
-    write_u32(board, at, number);
-    write_u16(board, at + POST_OWNER, owner as u16);
+    write_number(board, HEADER_POSTS, 2, (n + 1) as u64);
+    write_number(board, at, 4, number as u64);
+    write_number(board, at + POST_OWNER, 2, owner as u64);
     write_string(board, at + POST_TITLE, TITLE_LIMIT, title);
 }
 
 // 0101
-pub fn start_system(board: &mut [u8], login: Login) -> u16
+pub fn start_system(board: &mut [u8], login: Login) -> Result<(), Refusal>
     requires { SoundState board.old }
     ensures { changed result board.new ≡ change_result board.old (start_sys login.user login.password) }
 {
-    if user_count(board) != 0 {
-        return 6;
+    let sound = SoundBoard { bytes: board };
+    if sound.count(Table::Users) != 0 {
+        return Err(Refusal::WrongStart);
     }
     add_user(board, 0, login.user, login.password);
-    0
+    Ok(())
 }
 
 // 0201
-pub fn request_registration(board: &mut [u8], u: u32, note: &[u8]) -> u16
+pub fn request_registration(board: &mut [u8], u: u32, note: &[u8]) -> Result<(), Refusal>
     requires { SoundState board.old × (is_string note_limit note.now ≡ true) }
     ensures { changed result board.new ≡ change_result board.old (c_nu_req u note.now) }
 {
-    if user_count(board) == 0 {
-        return 6;
+    let sound = SoundBoard { bytes: board };
+    if sound.count(Table::Users) == 0 {
+        return Err(Refusal::WrongStart);
     }
-    if is_registered(board, u) {
-        return 11;
+    if sound.holds(Table::Users, u) || sound.holds(Table::Pending, u) {
+        return Err(Refusal::AlreadyThere);
     }
-    if is_pending(board, u) {
-        return 11;
-    }
-    let n = pending_count(board);
+    let n = sound.count(Table::Pending);
     if PENDING_LIMIT <= n {
-        return 12;
+        return Err(Refusal::Full);
     }
     add_pending(board, n, u, note);
-    0
+    Ok(())
 }
 
 // 0202: the later pending ones move up, and the freed record is zero
-pub fn register_user(board: &mut [u8], login: Login, v: u32, password: u64) -> u16
+pub fn register_user(board: &mut [u8], login: Login, v: u32, password: u64) -> Result<(), Refusal>
     requires { SoundState board.old }
     ensures { changed result board.new ≡ change_result board.old (c_user login.user login.password v password) }
 {
-    let i = pending_place(board, v);
-    let number = pending_refusal(board, 0x0202, login, v, i);
-    if number != 0 {
-        return number;
-    }
-    let n = user_count(board);
+    let sound = SoundBoard { bytes: board };
+    let i = sound.permitted_pending(0x0202, login, v)?;
+    let n = sound.count(Table::Users);
     if USER_LIMIT <= n {
-        return 12;
+        return Err(Refusal::Full);
     }
-    let k = pending_count(board);
-    remove_record(board, PENDING, PENDING_SIZE, k, i);
-    write_u16(board, HEADER_PENDING, (k - 1) as u16);
+    let k = sound.count(Table::Pending);
+    Table::Pending.records().remove(board, k, i);
+    write_number(board, HEADER_PENDING, 2, (k - 1) as u64);
     add_user(board, n, v, password);
-    0
+    Ok(())
 }
 
 // 0203
-pub fn create_post(board: &mut [u8], login: Login, n: u32, title: &[u8]) -> u16
+pub fn create_post(board: &mut [u8], login: Login, n: u32, title: &[u8]) -> Result<(), Refusal>
     requires { SoundState board.old × (is_string title_limit title.now ≡ true) }
     ensures { changed result board.new ≡ change_result board.old (c_post login.user login.password n title.now) }
 {
-    let owner = user_slot(board, login.user);
-    let number = login_refusal(board, login, owner);
-    if number != 0 {
-        return number;
+    let sound = SoundBoard { bytes: board };
+    let owner = sound.log_in(login)?;
+    if sound.holds(Table::Posts, n) {
+        return Err(Refusal::AlreadyThere);
     }
-    if is_post(board, n) {
-        return 11;
-    }
-    let m = post_count(board);
+    let m = sound.count(Table::Posts);
     if POST_LIMIT <= m {
-        return 12;
+        return Err(Refusal::Full);
     }
     add_post(board, m, n, owner, title);
-    0
+    Ok(())
 }
 
 // 0204
-pub fn request_friend(board: &mut [u8], login: Login, v: u32, note: &[u8]) -> u16
+pub fn request_friend(board: &mut [u8], login: Login, v: u32, note: &[u8]) -> Result<(), Refusal>
     requires { SoundState board.old × (is_string note_limit note.now ≡ true) }
     ensures { changed result board.new ≡ change_result board.old (c_friend_req login.user login.password v note.now) }
 {
-    let u = login.user;
-    let i = user_slot(board, u);
-    let j = user_slot(board, v);
-    let number = user_refusal(board, login, v, i, j);
-    if number != 0 {
-        return number;
+    let sound = SoundBoard { bytes: board };
+    let (i, j) = sound.log_in_with(login, v)?;
+    if login.user == v || sound.are_friends(i, j) || sound.has_requested(j, i) {
+        return Err(Refusal::AlreadyThere);
     }
-    if u == v {
-        return 11;
-    }
-    if are_friends(board, i, j) {
-        return 11;
-    }
-    if has_requested(board, j, i) {
-        return 11;
-    }
-    set_row_bit(board, requests_at(j), i);
+    let row_at = Table::Users.field_at(j, USER_REQUESTS);
+    change_bit(board, row_at, i, set_bit);
     write_string(board, note_at(j, i), NOTE_LIMIT, note);
-    0
+    Ok(())
 }
 
 // 0205: the requests of both to each other are removed with their notes, and both become friends
-pub fn accept_request(board: &mut [u8], login: Login, v: u32) -> u16
+pub fn accept_request(board: &mut [u8], login: Login, v: u32) -> Result<(), Refusal>
     requires { SoundState board.old }
     ensures { changed result board.new ≡ change_result board.old (c_friend login.user login.password v) }
 {
-    let i = user_slot(board, login.user);
-    let j = user_slot(board, v);
-    let number = user_refusal(board, login, v, i, j);
-    if number != 0 {
-        return number;
-    }
-    if !has_requested(board, i, j) {
-        return 9;
+    let sound = SoundBoard { bytes: board };
+    let (i, j) = sound.log_in_with(login, v)?;
+    if !sound.has_requested(i, j) {
+        return Err(Refusal::Missing);
     }
     remove_requests(board, i, j);
-    add_friends(board, i, j);
-    0
+    change_friends(board, i, j, set_bit);
+    Ok(())
 }

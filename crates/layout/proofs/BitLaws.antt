@@ -1,6 +1,6 @@
 -- Laws of rows of bits: what a shift leaves, a bit after another one was set or cleared, bounds, and the places of the set bits.
 use Prim.Native.Nat.{ℕ, zero, suc, ◌+◌, ◌-◌, ◌*◌, ◌/◌, ◌%◌, ◌^◌, min, max, ◌≤◌, ◌<◌}
-use native.Mathlib.Nat.{add-zero, mul_comm, add-mul, one-mul, zero-mul, sub-zero, sub-le, le_refl, lt_of_lt_of_le, max-zero, max-eq_right, mod-lt, mod-one, mod-eq_of_lt, div-eq_of_lt, div-lt_iff_lt-mul, div_self, mul-mod_left, add-mul-div_right, pow-suc, eq-or-lt_of_le, le_of_suc-le-suc}
+use native.Mathlib.Nat.{add-zero, add-mul, one-mul, zero-mul, sub-zero, sub-le, le_refl, lt_of_lt_of_le, max-zero, max-eq_right, mod-lt, mod-one, mod-eq_of_lt, div-eq_of_lt, div-lt_iff_lt-mul, add-mul-div_right, eq-or-lt_of_le, le_of_suc-le-suc}
 use native.Mathlib.Numerals.{add-one, one-add}
 use native.Mathlib.Omega.{arith}
 use mathlib.Core.Path.{◌≡◌, refl, sym, ap, ap₂, ◌∙◌, subst}
@@ -10,11 +10,12 @@ use mathlib.Core.List.Memᴰ
 use mathlib.Core.List.{List, [], ◌∷◌, ◌++◌, map, map-append, append-nil, Memᴰ}
 use lib.ListN.{length, length-append}
 use lib.Dec.{eqb, ltb, lit≤}
-use lib.Bits.{bit_and, bit_or, and_shr, and_step, and_high, or_shr, or_step, or_add_and, or_disjoint, or_lt, and_le_l}
+use lib.Bits.{bit_and, bit_or, or_add_and, or_disjoint, or_lt, and_le_l}
 use lib.Count.{ones, ones_cat}
-use lib.Pow.{pow_pos, pow_mono, pow-lt, pow-add, high, ones_lt, ones_split, high_ones, mod-pow-add, shl-shr}
+use lib.Pow.{pow_pos, pow_mono, pow-lt, mod-pow-add}
 use borrow.Table.Steps.{cases}
 use borrow.Author.Tests.{lt-ltb, le-ltb, ltb-true, ltb-false, eq-eqb, eqb-true}
+use Rattle.std.proofs.lemmas.Nat.Bits.{bit_at_above, bit_at-pow_same, bit_at-pow_other, bit_at_or, bit_at_and, bit_at-zero, bit_at_ones, and_pow, same_from_bits_below}
 use Rattle.layout.specs.Bits.{bit_at, has_bit, set_bit, clear_bit, set_places}
 use Rattle.layout.proofs.BooleanLaws.{tests_agree}
 
@@ -46,56 +47,34 @@ bit_lt row j = omega arith
 -- a row below 2 ^ n has no bit at or above n
 pub bit_beyond : (row n j : ℕ) → row < 2 ^ n → n ≤ j → bit_at row j ≡ 0
 unfolding bit_at
-bit_beyond row n j h l = ap (λ (x : ℕ). x % 2) (shift_none row n j h l)
+bit_beyond row n j h l = bit_at_above row n j h l
 
 pub bit_power : (j : ℕ) → bit_at (2 ^ j) j ≡ 1
 unfolding bit_at
-bit_power j = ap (λ (x : ℕ). x % 2) (div_self (pow_pos j))
+bit_power j = bit_at-pow_same j
 
 bit_power_other : (j k : ℕ) → k ≢ j → bit_at (2 ^ j) k ≡ 0
-bit_power_other j k n =
-    cases (ltb k j)
-    (λ e.
-    let h = ltb-true k j e in
-    let q : suc (j - suc k) + k ≡ j = omega arith in
-    subst (λ (x : ℕ). bit_at (2 ^ x) k ≡ 0) q (lower (j - suc k)))
-    (λ e. let h = ltb-false k j e in bit_beyond (2 ^ j) k k (pow-lt (omega arith)) (le_refl k))
-  where
-    lower : (d : ℕ) → bit_at (2 ^ (suc d + k)) k ≡ 0
-    lower d = unfold bit_at in
-        ap (λ (x : ℕ). x / 2 ^ k % 2) (pow-add 2 (suc d) k)
-        ∙ ap (λ (x : ℕ). x % 2) (shl-shr (2 ^ suc d) k ∙ pow-suc 2 d) ∙ mul-mod_left (2 ^ d) 2
+unfolding bit_at
+bit_power_other j k n = bit_at-pow_other j k n
 
 pub bit_or_lem : (a b k : ℕ) → bit_at (bit_or a b) k ≡ max (bit_at a k) (bit_at b k)
 unfolding bit_at
-bit_or_lem a b k = ap (λ (x : ℕ). x % 2) (or_shr a b k) ∙ lowest (a / 2 ^ k) (b / 2 ^ k)
-  where
-    lowest : (x y : ℕ) → bit_or x y % 2 ≡ max (x % 2) (y % 2)
-    lowest x y = let e = or_step x y in omega arith
+bit_or_lem a b k = bit_at_or a b k
 
 pub bit_and_lem : (a b k : ℕ) → bit_at (bit_and a b) k ≡ min (bit_at a k) (bit_at b k)
 unfolding bit_at
-bit_and_lem a b k = ap (λ (x : ℕ). x % 2) (and_shr a b k) ∙ lowest (a / 2 ^ k) (b / 2 ^ k)
-  where
-    lowest : (x y : ℕ) → bit_and x y % 2 ≡ min (x % 2) (y % 2)
-    lowest x y = let e = and_step x y in omega arith
+bit_and_lem a b k = bit_at_and a b k
 
 -- a row below 2 ^ n without a bit below n is 0
 pub no_bits : (n row : ℕ) → row < 2 ^ n → ((j : ℕ) → j < n → bit_at row j ≡ 0) → row ≡ 0
 unfolding bit_at
-no_bits zero row h e = omega arith
-no_bits (suc n) row h e =
-    let last : row / 2 ^ n % 2 ≡ 0 = e n (omega arith) in
-    let top : row / 2 ^ n < 2 = (div-lt_iff_lt-mul (pow_pos n)).1 (rw (sym (pow-suc 2 n ∙ mul_comm (2 ^ n) 2)) h) in
-    let none : row / 2 ^ n ≡ 0 = omega arith in
-    let below : row < 1 * 2 ^ n = (div-lt_iff_lt-mul (pow_pos n)).0 (omega arith) in
-    no_bits n row (omega arith) (λ j l. e j (omega arith))
+no_bits n row h e = same_from_bits_below n row 0 h (pow_pos n) (λ j l. e j l ∙ sym (bit_at-zero j))
 
--- ---- set and clear, as the code does them: `row | 2 ^ j` and `row - (row & 2 ^ j)`
+-- ---- set and clear, as the code does them: by an or, and by an and with all other bits
 
 pub and_power : (row j : ℕ) → bit_and row (2 ^ j) ≡ bit_at row j * 2 ^ j
 unfolding bit_at
-and_power row j = ap (bit_and row) (sym (high_ones 1 j ∙ one-mul (2 ^ j))) ∙ and_high row 1 j
+and_power row j = and_pow row j
 
 pub set_or : (row j : ℕ) → j < 32 → set_bit row j ≡ bit_or row (2 ^ j)
 unfolding set_bit
@@ -206,14 +185,7 @@ has_below row n j h t = cases (ltb j n) (ltb-true j n) (λ e. absurd (true≢fal
 -- the first n bits are set in 2 ^ n less 1
 pub has_low : (n j : ℕ) → j < n → has_bit (2 ^ n - 1) j ≡ true
 unfolding has_bit bit_at
-has_low n j h =
-    let d : ℕ = n - suc j in
-    let s : n ≡ suc d + j = omega arith in
-    let p = pow_pos d in
-    let odd : (2 ^ suc d - 1) % 2 ≡ 1 = rw pow-suc (omega arith) in
-    ap (λ (x : ℕ). eqb ((2 ^ x - 1) / 2 ^ j % 2) 1) s
-    ∙ ap (λ (x : ℕ). eqb (x / 2 ^ j % 2) 1) (ones_split (suc d) j)
-    ∙ ap (λ (x : ℕ). eqb (x % 2) 1) (high (2 ^ suc d - 1) j (ones_lt j)) ∙ ap (λ (x : ℕ). eqb x 1) odd
+has_low n j h = ap (λ (x : ℕ). eqb x 1) (bit_at_ones n j h)
 
 -- ---- the places of the set bits: how many there are, and which
 

@@ -192,13 +192,6 @@ module _ (b : List ℕ) (at : ℕ) (x y : List ℕ) {b₁ b₂ : List ℕ} {k : 
       let n : length b₁ ≡ length b = ap length e ∙ length-patch b at x (omega arith) in
       patch-behind (write_patches b₁ k y (omega arith) f)
 
--- one more byte behind a write
-pub patch_snoc : (b : List ℕ) (at : ℕ) (x : List ℕ) (v : ℕ) → at + length x < length b
-    → set (patch b at x) (at + length x) v ≡ patch b at (x ++ (v ∷ []))
-patch_snoc b at x v h =
-    let l = length-patch b at x (omega arith) in
-    patch_store (patch b at x) (at + length x) v (omega arith) ∙ patch_join b at x (v ∷ []) (omega arith)
-
 -- ---- runs of zeros
 
 pub zero_append : (xs ys : List ℕ) → all_zero (xs ++ ys) ≡ (all_zero xs && all_zero ys)

@@ -1,5 +1,5 @@
 -- Laws of little-endian numbers, over the width: lengths, both round trips, bounds, and a number of m + n bytes as two.
-use Prim.Native.Nat.{ℕ, zero, suc, ◌+◌, ◌*◌, ◌/◌, ◌%◌, ◌^◌, ◌≤◌, ◌<◌, zero-le, suc-le-suc}
+use Prim.Native.Nat.{ℕ, zero, suc, ◌+◌, ◌-◌, ◌*◌, ◌/◌, ◌%◌, ◌^◌, ◌≤◌, ◌<◌, zero-le, suc-le-suc}
 use native.Mathlib.Nat.{add-zero, zero-add, suc-add, mul_assoc, mul_comm, mul-add, one-mul, add_assoc, pow-suc, div-lt_iff_lt-mul, div-one, div-div-eq-div-mul, one-le-pow}
 use native.Mathlib.Numerals.{add-one}
 use native.Mathlib.Omega.{arith}
@@ -11,10 +11,14 @@ use lib.Dec.{ltb, lit<}
 use lib.Arith.{lt-one, mod-mul}
 use lib.Pow.{are_bytes}
 use borrow.Author.Tests.{lt-ltb, ltb-true}
-use Rattle.layout.specs.Bytes.{bytes_at, patch}
+use Rattle.std.specs.Int.{byte_worth, sum_through}
+use Rattle.std.specs.Array.{IsWholeChunk}
+use Rattle.std.proofs.lemmas.List.{take_more_set}
+use lib.Seq.{length-take-le, take-suc, take_all}
+use Rattle.layout.specs.Bytes.{bytes_at}
 use Rattle.layout.specs.Numbers.{to_le_bytes, from_le_bytes}
 use Rattle.layout.proofs.BooleanLaws.{and_left, and_right, and_both}
-use Rattle.layout.proofs.ByteLaws.{length-bytes_at, bytes_at_none, bytes_at_cons, bytes_at_join, patch_snoc}
+use Rattle.layout.proofs.ByteLaws.{length-bytes_at, bytes_at_none, bytes_at_cons, bytes_at_join}
 
 -- ---- lists of bytes (the library's `are_bytes`)
 
@@ -127,21 +131,36 @@ from_one b at h =
     ∙ ap (λ (l : List ℕ). get_or b at 0 + 256 * from_le_bytes l) (bytes_at_none b (at + 1))
     ∙ add-zero (get_or b at 0)
 
-pub from-two : (b : List ℕ) (at : ℕ) → at + 2 ≤ length b → from_le_bytes (bytes_at b at 2) ≡ get_or b at 0 + get_or b (at + 1) 0 * 256
-from-two b at h =
-    let e = from_join b at 1 1 (omega arith) in
-    let l = from_one b at (omega arith) in
-    let r = from_one b (at + 1) (omega arith) in
-    omega arith
+-- a number is the sum of its bytes, each for what it is worth at its place, as the library reads them
+from_each : (xs : List ℕ) (k : ℕ) → suc k ≤ length xs
+    → from_le_bytes (take (suc k) xs) ≡ sum_through (λ i. byte_worth i (get_or xs i 0)) k
+unfolding from_le_bytes
+from_each [] k h = absurd (omega arith)
+from_each (x ∷ xs) zero h = add-zero x
+from_each (x ∷ xs) (suc k) h =
+    let l : List ℕ = x ∷ xs in
+    let last : ℕ = get_or l (suc k) 0 in
+    ap from_le_bytes (take-suc l (suc k) 0 (omega arith)) ∙ from_append (take (suc k) l) (last ∷ [])
+    ∙ ap₂ (λ (n y : ℕ). n + y) (from_each (x ∷ xs) k (omega arith))
+    (ap₂ (λ (w y : ℕ). 256 ^ w * y) (length-take-le (suc k) l (omega arith)) (add-zero last) ∙ mul_comm (256 ^ suc k) last)
+
+-- the bytes from a place on, in an array
+pub from_array : (b : List ℕ) (at k : ℕ) {bytes : List ℕ} → at + suc k ≤ length b
+    → IsWholeChunk (take (at + suc k - at) (drop at b)) bytes (suc k)
+    → sum_through (λ i. byte_worth i (get_or bytes i 0)) k ≡ from_le_bytes (bytes_at b at (suc k))
+unfolding bytes_at
+from_array b at k {bytes} h c =
+    let n : at + suc k - at ≡ suc k = omega arith in
+    let e : bytes ≡ bytes_at b at (suc k) = c.same ∙ ap (bytes_at b at) n in
+    let l = ap length e ∙ length-bytes_at b at (suc k) h in
+    sym (from_each bytes k (omega arith)) ∙ ap from_le_bytes (take_all (suc k) bytes (omega arith) ∙ e)
 
 -- one more byte behind the first j, and what is left of x
-pub number_more : (b : List ℕ) (at j x : ℕ) → at + j < length b
-    → set (patch b at (to_le_bytes j x)) (at + j) (x / 256 ^ j % 256) ≡ patch b at (to_le_bytes (j + 1) x)
+pub number_more : (p : List ℕ) (j x : ℕ) → j < length p → take j p ≡ to_le_bytes j x
+    → take (j + 1) (set p j (x / 256 ^ j % 256)) ≡ to_le_bytes (j + 1) x
 unfolding to_le_bytes
-number_more b at j x h =
-    let l : length (to_le_bytes j x) ≡ j = length_to j x in
-    ap (λ (k : ℕ). set (patch b at (to_le_bytes j x)) (at + k) (x / 256 ^ j % 256)) (sym l)
-    ∙ patch_snoc b at (to_le_bytes j x) (x / 256 ^ j % 256) (omega arith) ∙ ap (patch b at) (sym (to_join j 1 x))
+number_more p j x h e =
+    take_more_set p j (x / 256 ^ j % 256) h ∙ ap (λ (l : List ℕ). l ++ (x / 256 ^ j % 256 ∷ [])) e ∙ sym (to_join j 1 x)
 
 pub rest_more : (j x : ℕ) → x / 256 ^ j / 256 ≡ x / 256 ^ (j + 1)
 rest_more j x = div-div-eq-div-mul x (256 ^ j) 256 ∙ ap (λ (k : ℕ). x / k) (sym (rw add-one (pow-suc 256 j)))

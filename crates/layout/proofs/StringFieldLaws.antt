@@ -1,5 +1,5 @@
 -- Laws of string fields, over the limit: lengths, both round trips, and what the functions that test and write a field ask.
-use Prim.Native.Nat.{ℕ, ◌+◌, ◌-◌, ◌%◌, ◌≤◌, ◌<◌}
+use Prim.Native.Nat.{ℕ, ◌+◌, ◌-◌, ◌≤◌, ◌<◌}
 use native.Mathlib.Nat.{add_assoc, sub-zero}
 use native.Mathlib.Omega.{arith}
 use mathlib.Core.Path.{◌≡◌, refl, sym, ap, ap₂, ◌∙◌}
@@ -15,7 +15,7 @@ use Rattle.layout.specs.Numbers.{to_le_bytes, from_le_bytes}
 use Rattle.layout.specs.StringFields.{is_string, string_bytes, string_field, stated_length, field_string, is_string_field, write_string}
 use Rattle.layout.proofs.BooleanLaws.{and_left, and_right, and_both, chain_stops, chain_goes_on}
 use Rattle.layout.proofs.ByteLaws.{length-bytes_at, length-write, take-bytes_at, drop-bytes_at, write-within, write_beyond, write_patches, write-behind, zero-replicate, replicate-zero}
-use Rattle.layout.proofs.NumberLaws.{length_to, from_to, to_from, to_mod, to_zero, bytes_take}
+use Rattle.layout.proofs.NumberLaws.{length_to, from_to, to_from, to_zero, bytes_take}
 
 -- ---- what a string is
 
@@ -222,7 +222,7 @@ module _ (b : List ℕ) (at limit : ℕ) (s : List ℕ) where
 
     -- the three writes of the code, one behind the other
     pub string-written : {b₁ b₂ b₃ : List ℕ} → at + (2 + limit) ≤ length b
-        → b₁ ≡ write_at b at (to_le_bytes 2 (length s % 65536)) → b₂ ≡ write_at b₁ (at + 2) s
+        → b₁ ≡ write_at b at (to_le_bytes 2 (length s)) → b₂ ≡ write_at b₁ (at + 2) s
         → b₃ ≡ write_at b₂ (at + 2 + length s) (replicate (limit - length s) 0) → b₃ ≡ write_string b at limit s
     unfolding string_field
     string-written l e₁ e₂ e₃ =
@@ -231,7 +231,7 @@ module _ (b : List ℕ) (at limit : ℕ) (s : List ℕ) where
         let lz : length z ≡ limit - length s = length-replicate (limit - length s) 0 in
         let ls = length-string_bytes s in
         write-behind b at (string_bytes s) z
-        (bytes-written b at s (omega arith) (e₁ ∙ ap (write_at b at) (to_mod 2 (length s))) e₂) (omega arith) (omega arith) e₃
+        (bytes-written b at s (omega arith) e₁ e₂) (omega arith) (omega arith) e₃
         ∙ sym (string-within l)
 
 pub length-write-string : (b : List ℕ) (at limit : ℕ) (s : List ℕ) → length (write_string b at limit s) ≡ length b

@@ -9,8 +9,12 @@ use mathlib.Core.List.{List, [], ◌∷◌, ◌++◌, map, flatten, sum, append_
 use lib.ListN.{length, take, drop, get_or, replicate, length-append, length-map, length-replicate, get_or-map, drop_of_length-le, take-append-drop}
 use lib.Seq.{take_at, drop_at, length-take-le, get_or-take, ext_get_or}
 use lib.Dec.{eqb, leb, ltb}
-use borrow.Author.Tests.{eq-eqb, ne_eqb, eqb-true, eqb-false, lt-ltb, le-ltb, ltb-true, le-leb, lt-leb, leb-true}
-use Rattle.layout.specs.Search.{index_of, index_after}
+use borrow.Author.Tests.{eq-eqb, ne_eqb, eqb-true, eqb-false, lt-ltb, le-ltb, ltb-true, ltb-false, le-leb, lt-leb, leb-true}
+use Rattle.std.proofs.lemmas.List.{take-map}
+use Rattle.std.specs.Option.{is_none}
+use Rattle.std.specs.Prelude.{Some, None}
+use borrow.Table.Steps.{cases}
+use Rattle.layout.specs.Search.{index_of, index_after, place_below}
 use Rattle.layout.specs.Bytes.{bytes_at, patch, write_at}
 use Rattle.layout.specs.Numbers.{from_le_bytes}
 use Rattle.layout.specs.Tables.{record_number, record_numbers, without_record, remove_record}
@@ -100,42 +104,59 @@ index_before x (y ∷ xs) k h e = by_test (eqb y x) refl k h e (index_before x x
     by_test false q zero h e f = eqb-false y x q e
     by_test false q (suc k) h e f = f k (le_of_suc-le-suc h) e
 
--- the loop that goes from the last record to the first: where it starts, at record i - 1 with its number r, and where it ends
+pub record-before : (size i : ℕ) → 0 < i → i * size ≡ (i - 1) * size + size
+record-before size i h = let e : i ≡ suc (i - 1) = omega arith in ap (λ (k : ℕ). k * size) e ∙ suc-mul (i - 1) size
+
+-- the loop that goes from the last record to the first: where it starts, where it ends, and at record i - 1 with its number r
 pub found_none : (b : List ℕ) (at size x n : ℕ) → n ≡ n + index_of x (record_numbers b at size (n - n))
 unfolding record_numbers index_of
 found_none b at size x n = rw (sub_self n) (sym (add-zero n))
 
-pub found_all : (b : List ℕ) (base size x n : ℕ) {at i found : ℕ} → at ≡ base + i * size → found ≡ i + index_of x (record_numbers b at size (n - i)) → i ≡ 0
+pub found_all : (b : List ℕ) (base size x n : ℕ) {i found : ℕ} → found ≡ i + index_of x (record_numbers b (base + i * size) size (n - i)) → i ≡ 0
     → found ≡ index_of x (record_numbers b base size n)
-found_all b base size x n {at} {i} {found} p v z =
-    let q : at ≡ base = p ∙ ap (λ (k : ℕ). base + k * size) z ∙ ap (λ (k : ℕ). base + k) (zero-mul size) ∙ add-zero base in
+found_all b base size x n {i} {found} v z =
+    let q : base + i * size ≡ base = ap (λ (k : ℕ). base + k * size) z ∙ ap (λ (k : ℕ). base + k) (zero-mul size) ∙ add-zero base in
     let m : n - i ≡ n = omega arith in
     v ∙ ap₂ (λ (k o : ℕ). k + index_of x (record_numbers b o size (n - i))) z q
     ∙ ap (λ (k : ℕ). 0 + index_of x (record_numbers b base size k)) m ∙ zero-add (index_of x (record_numbers b base size n))
 
-module _ (b : List ℕ) (at size x n i : ℕ) (h : 0 < i) (l : i ≤ n) {r : ℕ} (e : r ≡ from_le_bytes (bytes_at b (at - size) 4)) where
+module _ (b : List ℕ) (base size x n i : ℕ) (h : 0 < i) (l : i ≤ n) {r : ℕ} (e : r ≡ from_le_bytes (bytes_at b (base + (i - 1) * size) 4)) where
   left : n - (i - 1) ≡ suc (n - i)
   left = omega arith
 
-  pub found_here : r ≡ x → i - 1 ≡ i - 1 + index_of x (record_numbers b (at - size) size (n - (i - 1)))
+  pub found_here : r ≡ x → i - 1 ≡ i - 1 + index_of x (record_numbers b (base + (i - 1) * size) size (n - (i - 1)))
   unfolding record_numbers
   found_here t =
-      let f = index_first x (from_le_bytes (bytes_at b (at - size) 4)) (record_numbers b (at - size + size) size (n - i)) (sym e ∙ t) in
+      let at : ℕ = base + (i - 1) * size in
+      let f = index_first x (from_le_bytes (bytes_at b at 4)) (record_numbers b (at + size) size (n - i)) (sym e ∙ t) in
       rw left (omega arith)
 
-  pub found_later : {found : ℕ} → size ≤ at → (r ≡ x → ⊥) → found ≡ i + index_of x (record_numbers b at size (n - i))
-      → found ≡ i - 1 + index_of x (record_numbers b (at - size) size (n - (i - 1)))
+  pub found_later : {found : ℕ} → (r ≡ x → ⊥) → found ≡ i + index_of x (record_numbers b (base + i * size) size (n - i))
+      → found ≡ i - 1 + index_of x (record_numbers b (base + (i - 1) * size) size (n - (i - 1)))
   unfolding record_numbers
-  found_later s t v =
-      let q : at ≡ at - size + size = omega arith in
+  found_later t v =
+      let at : ℕ = base + (i - 1) * size in
+      let p = record-before size i h in
+      let q : base + i * size ≡ at + size = omega arith in
       let w = v ∙ ap (λ (k : ℕ). i + index_of x (record_numbers b k size (n - i))) q in
-      let f = index_later x (from_le_bytes (bytes_at b (at - size) 4)) (record_numbers b (at - size + size) size (n - i)) (λ z. t (e ∙ z)) in
+      let f = index_later x (from_le_bytes (bytes_at b at 4)) (record_numbers b (at + size) size (n - i)) (λ z. t (e ∙ z)) in
       rw left (omega arith)
+
+-- a search that finds a place, and one that finds none
+pub place_found : (n : ℕ) {found i : ℕ} → found ≡ i → found < n → Some found ≡ place_below n i
+place_found n {found} e l = sym (ap (λ (t : Bool). cond t (Some found) None) (lt-ltb found n l)) ∙ ap (place_below n) e
+
+pub place_none : (n : ℕ) {found i : ℕ} → found ≡ i → n ≤ found → None ≡ place_below n i
+place_none n {found} e l = sym (ap (λ (t : Bool). cond t (Some found) None) (le-ltb found n l)) ∙ ap (place_below n) e
+
+-- it finds none just when the index is the number of elements
+pub nowhere : (n i : ℕ) → i ≤ n → is_none (place_below n i) ≡ eqb i n
+nowhere n i h =
+    cases (ltb i n)
+    (λ e. let l = ltb-true i n e in ap is_none (sym (place_found n refl l)) ∙ sym (ne_eqb i n (λ z. omega arith)))
+    (λ e. let l = ltb-false i n e in ap is_none (sym (place_none n {found = i} refl l)) ∙ sym (eq-eqb i n (omega arith)))
 
 -- ---- places of records
-
-pub record-before : (size i : ℕ) → 0 < i → i * size ≡ (i - 1) * size + size
-record-before size i h = let e : i ≡ suc (i - 1) = omega arith in ap (λ (k : ℕ). k * size) e ∙ suc-mul (i - 1) size
 
 -- a table is what stands before record i, record i, and the rest
 pub record_parts : (size n i : ℕ) → i < n → ((i + 1) * size ≡ i * size + size) × ((i + 1) * size + (n - (i + 1)) * size ≡ n * size)
@@ -211,9 +232,7 @@ module _ (b : List ℕ) (base size n i : ℕ) where
 -- ---- a table as a concatenation of records rs
 
 pub map-take : {A B : Type 0} (f : A → B) (n : ℕ) (l : List A) → map f (take n l) ≡ take n (map f l)
-map-take f zero l = refl
-map-take f (suc n) [] = refl
-map-take {B = B} f (suc n) (x ∷ l) = ap (λ (r : List B). f x ∷ r) (map-take f n l)
+map-take f n l = sym (take-map f n l)
 
 module _ (size n : ℕ) (rs : List (List ℕ)) (s : map length rs ≡ replicate n size) (i : ℕ) (h : i ≤ n) where
   length_front : length (flatten (take i rs)) ≡ i * size

@@ -1,12 +1,13 @@
 -- Laws of words, numbers read from several bytes at a time: a word is zero when its bytes are, and has room in n bytes when its bytes from n
 -- on are zero; and of loops that gather words.
-use Prim.Native.Nat.{ℕ, zero, suc, ◌+◌, ◌-◌, ◌*◌, ◌/◌, ◌%◌, ◌^◌, ◌≤◌, ◌<◌, min}
+use Prim.Native.Nat.{ℕ, zero, suc, ◌+◌, ◌-◌, ◌*◌, ◌/◌, ◌^◌, ◌≤◌, ◌<◌, min}
 use native.Mathlib.Nat.{pow-suc, mul-suc, one-le-pow}
 use native.Mathlib.Omega.{arith}
 use mathlib.Core.Path.{◌≡◌, refl, sym, ap, ap₂, ◌∙◌}
-use mathlib.Core.List.{List, [], ◌∷◌}
+use mathlib.Core.List.{List, [], ◌∷◌, ◌++◌}
 use mathlib.Core.Bool.{Bool, true, ◌&&◌}
-use lib.ListN.{drop}
+use lib.ListN.{length, take, drop, length-append}
+use lib.Seq.{take_at, drop_at}
 use lib.Dec.{eqb, ltb, lit<}
 use lib.Bits.{bit_or, or_lt, or_add_and, and_le_l, and_le_r}
 use lib.Pow.{are_bytes, pow-add, shr-shr}
@@ -15,7 +16,7 @@ use borrow.Table.Steps.{cases}
 use Rattle.layout.specs.Bytes.{bytes_at, all_zero}
 use Rattle.layout.specs.Numbers.{from_le_bytes}
 use Rattle.layout.proofs.BooleanLaws.{and_left, and_right, and_both, tests_agree, below_one}
-use Rattle.layout.proofs.ByteLaws.{zero_cover, bytes_at_none, drop-bytes_at}
+use Rattle.layout.proofs.ByteLaws.{length-bytes_at, zero_cover, bytes_at_none, take-bytes_at, drop-bytes_at}
 use Rattle.layout.proofs.NumberLaws.{bytes-bytes_at}
 use Rattle.layout.proofs.BitLaws.{below_power}
 use Rattle.layout.proofs.RunLaws.{zero-both}
@@ -63,6 +64,26 @@ pub word_rest : (b : List ℕ) (at width n : ℕ) → are_bytes b ≡ true
 word_rest b at width n y = word_width (bytes_at b at width) n (bytes-bytes_at b at width y) ∙ ap all_zero (drop-bytes_at b at n width)
 
 -- ---- gathering
+
+-- the next chunk of the bytes left of a run from p on is the word there, and behind it the rest is left
+module _ (b : List ℕ) (p end : ℕ) (word left rest : List ℕ) (h : p ≤ end) (f : end ≤ length b) (e : left ≡ bytes_at b p (end - p))
+    (cut : left ≡ word ++ rest) (size : length word ≡ 8) where
+  pub chunk-fits : p + 8 ≤ end
+  chunk-fits =
+      let l = ap length e ∙ length-bytes_at b p (end - p) (omega arith) in
+      let m = ap length cut ∙ length-append word rest in
+      omega arith
+
+  pub chunk_word : word ≡ bytes_at b p 8
+  chunk_word =
+      let k = chunk-fits in
+      sym (take_at word rest 8 size) ∙ ap (take 8) (sym cut ∙ e) ∙ take-bytes_at b p 8 (end - p) (omega arith)
+
+  pub chunk-rest : rest ≡ bytes_at b (p + 8) (end - (p + 8))
+  chunk-rest =
+      let k = chunk-fits in
+      let d : end - p - 8 ≡ end - (p + 8) = omega arith in
+      sym (drop_at word rest 8 size) ∙ ap (drop 8) (sym cut ∙ e) ∙ drop-bytes_at b p 8 (end - p) ∙ ap (bytes_at b (p + 8)) d
 
 -- fewer than eight bytes are left of a run: they are the last of the word that ends there
 pub words_end : (b : List ℕ) (p end : ℕ) → are_bytes b ≡ true → p ≤ end → end - p < 8 → 8 ≤ end
@@ -115,10 +136,3 @@ module _ (b : List ℕ) (first n last : ℕ) (s : first ≡ min (first + n) last
       ∙ ap₂ (λ (t u : Bool). t && u) g
       (ap (λ (x : ℕ). ltb x (256 ^ n)) r ∙ word_rest b p 8 n y ∙ ap (λ (q : ℕ). all_zero (bytes_at b q (8 - n))) o)
       ∙ cover ∙ ap (λ (q : ℕ). all_zero (bytes_at b (first + n) q)) d
-
-  -- whole words that reach over the run: at least one, unless the run is empty
-  pub gathered_all : (gathered k : ℕ) {at end : ℕ} → at ≡ first + n → end ≡ last + 8 → k % 8 ≡ 0 → end ≤ at + k
-      → gathered_up b first n last gathered k → ltb gathered (256 ^ n) ≡ all_zero (bytes_at b at (end - at))
-  gathered_all gathered k {at} {end} i j e l g =
-      let d : min (first + k) (last + 8) - (first + n) ≡ end - at = omega arith in
-      g ∙ ap₂ (λ (o m : ℕ). all_zero (bytes_at b o m)) (sym i) d

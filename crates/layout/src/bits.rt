@@ -2,7 +2,7 @@
 ghost use Rattle.std.specs.Prelude.{◌≡◌, ◌-◌, ◌^◌, min, length};
 ghost use Rattle.layout.specs.Bits.{bit_at, has_bit, set_bit, clear_bit, set_places};
 
-// Bit j, 0 or 1; a row has none at or above 32.
+// Bit j, 0 or 1; a row has none at or above 32. A number, since a limit is multiplied by it.
 pub fn bit_at(row: u32, j: usize) -> u32
     ensures { result ≡ bit_at row j }
 {
@@ -35,7 +35,7 @@ pub fn clear_bit(row: u32, j: usize) -> u32
     if 32 <= j {
         return row;
     }
-    row - (row & (1u32 << j))
+    row & !(1u32 << j)
 }
 
 // The row with its first n bits set; all 32 from n = 32 on.
@@ -43,7 +43,7 @@ pub fn low_bits(n: usize) -> u32
     ensures { result ≡ 2 ^ min n 32 - 1 }
 {
     if 32 <= n {
-        return 0xffff_ffff;
+        return u32::MAX;
     }
     (1u32 << n) - 1
 }
@@ -52,5 +52,5 @@ pub fn low_bits(n: usize) -> u32
 pub fn count_bits(row: u32) -> u32
     ensures { result ≡ length (set_places row 32) }
 {
-    u32::count_ones(row)
+    row.count_ones()
 }

@@ -1,4 +1,4 @@
-// Numbers, runs, string fields, records and bit rows at places of a lent byte slice.
+// Numbers, runs, string fields and records at places of a lent byte slice, and rows of bits.
 #![tactic(auto)]
 
 pub mod bits;

@@ -1,30 +1,31 @@
-// Little-endian numbers: read and written with 2, 4 and 8 bytes, and written with any width.
+// Little-endian numbers: read from 2, 4 and 8 bytes, and written with any width; and whether a number has room in a width.
 ghost use Rattle.std.specs.Prelude.{◌≡◌, ◌+◌, ◌^◌, ◌≤◌, length, ltb};
 ghost use Rattle.layout.specs.Bytes.{bytes_at, write_at};
 ghost use Rattle.layout.specs.Numbers.{to_le_bytes, from_le_bytes};
 
 use crate::range::within;
 
-// The reads require their range: they are the innermost steps of the test of a board, where a check would cost.
+// The reads require their range: they are the innermost steps of the test of a board, where a check would cost. A part of as many bytes as the
+// array leaves no check at run time. There are three of them, since the result's type decides how many bytes are read.
 pub fn read_u16(b: &[u8], at: usize) -> u16
     requires { at + 2 ≤ length b.now }
     ensures { result ≡ from_le_bytes (bytes_at b.now at 2) }
 {
-    b[at] as u16 + b[at + 1] as u16 * 256
+    u16::from_le_bytes(b[at..at + 2].try_into().unwrap())
 }
 
 pub fn read_u32(b: &[u8], at: usize) -> u32
     requires { at + 4 ≤ length b.now }
     ensures { result ≡ from_le_bytes (bytes_at b.now at 4) }
 {
-    read_u16(b, at) as u32 + read_u16(b, at + 2) as u32 * 65536
+    u32::from_le_bytes(b[at..at + 4].try_into().unwrap())
 }
 
 pub fn read_u64(b: &[u8], at: usize) -> u64
     requires { at + 8 ≤ length b.now }
     ensures { result ≡ from_le_bytes (bytes_at b.now at 8) }
 {
-    read_u32(b, at) as u64 + read_u32(b, at + 4) as u64 * 4294967296
+    u64::from_le_bytes(b[at..at + 8].try_into().unwrap())
 }
 
 // Whether a number has room in so many bytes: nothing is left of it behind them. A shift by 64 is not allowed, so there are two of half the bits.
@@ -38,7 +39,8 @@ pub fn fits_width(x: u64, width: usize) -> bool
     (x >> half) >> half == 0
 }
 
-// A number of any width written, the lowest byte first; where it would reach past the end, nothing changes.
+// A number of any width written, the lowest byte first; where it would reach past the end, nothing changes. By a loop, so that the width needs no bound:
+// `to_le_bytes` gives eight bytes, and no more can be cut from them.
 pub fn write_number(b: &mut [u8], at: usize, width: usize, x: u64)
     ensures { b.new ≡ write_at b.old at (to_le_bytes width x) }
 {
@@ -46,29 +48,8 @@ pub fn write_number(b: &mut [u8], at: usize, width: usize, x: u64)
         return;
     }
     let mut rest = x;
-    let mut j = 0;
-    while j < width {
-        b[at + j] = (rest % 256) as u8;
-        rest = rest / 256;
-        j += 1;
+    for byte in &mut b[at..at + width] {
+        *byte = (rest % 256) as u8;
+        rest /= 256;
     }
-}
-
-// Out of range the writes change nothing.
-pub fn write_u16(b: &mut [u8], at: usize, x: u16)
-    ensures { b.new ≡ write_at b.old at (to_le_bytes 2 x) }
-{
-    write_number(b, at, 2, x as u64);
-}
-
-pub fn write_u32(b: &mut [u8], at: usize, x: u32)
-    ensures { b.new ≡ write_at b.old at (to_le_bytes 4 x) }
-{
-    write_number(b, at, 4, x as u64);
-}
-
-pub fn write_u64(b: &mut [u8], at: usize, x: u64)
-    ensures { b.new ≡ write_at b.old at (to_le_bytes 8 x) }
-{
-    write_number(b, at, 8, x);
 }

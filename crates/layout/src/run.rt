@@ -21,33 +21,20 @@ pub fn zero_fill(b: &mut [u8], at: usize, n: usize)
     if !within(b.len(), at, n) {
         return;
     }
-    let mut j = 0;
-    while j < n {
-        b[at + j] = 0;
-        j += 1;
-    }
+    b[at..at + n].fill(0);
 }
 
-// Whether the bytes from a place up to an end are zero. The loop gathers and never leaves early, so that it is done many bytes at a time.
-fn zero_until(b: &[u8], at: usize, end: usize) -> bool
-    requires { end ≤ length b.now }
-    ensures { result ≡ all_zero (bytes_at b.now at (end - at)) }
+// Whether all bytes are zero. The loop gathers and never leaves early, so that it is done many bytes at a time.
+fn is_zero(bytes: &[u8]) -> bool
+    ensures { result ≡ all_zero bytes.now }
 {
-    let mut gathered: u8 = 0;
-    let mut i = at;
-    while i < end {
-        gathered = gathered | b[i];
-        i += 1;
-    }
-    gathered == 0
+    bytes.iter().fold(0, |gathered, byte| gathered | *byte) == 0
 }
 
 // Whether n bytes from a place on are zero, as far as they are there.
 pub fn all_zero(b: &[u8], at: usize, n: usize) -> bool
     ensures { result ≡ all_zero (bytes_at b.now at n) }
 {
-    if !within(b.len(), at, n) {
-        return zero_until(b, at, b.len());
-    }
-    zero_until(b, at, at + n)
+    let there = &b[at.min(b.len())..];
+    is_zero(&there[..n.min(there.len())])
 }

@@ -3,8 +3,8 @@ ghost use Rattle.std.specs.Prelude.{◌≡◌, ◌+◌, ◌-◌, ◌≤◌, leng
 ghost use Rattle.layout.specs.Bytes.{bytes_at, all_zero};
 ghost use Rattle.layout.specs.StringFields.{is_string_field, write_string};
 
-use crate::number::{fits_width, read_u16, read_u64, write_u16};
-use crate::range::{lesser, within};
+use crate::number::{fits_width, read_u16, read_u64, write_number};
+use crate::range::within;
 use crate::run::{all_zero, write_bytes, zero_fill};
 
 // The field at a place becomes s; where s is too long or the field reaches past the end, nothing changes.
@@ -21,7 +21,7 @@ pub fn write_string(b: &mut [u8], at: usize, limit: usize, s: &[u8])
     if !within(b.len() - 2, at, limit) {
         return;
     }
-    write_u16(b, at, (n % 65536) as u16);
+    write_number(b, at, 2, n as u64);
     write_bytes(b, at + 2, s);
     zero_fill(b, at + 2 + n, limit - n);
 }
@@ -32,16 +32,15 @@ fn words_zero(b: &[u8], at: usize, end: usize) -> bool
     requires { (at ≤ end) × (8 ≤ end) × (end ≤ length b.now) }
     ensures { result ≡ all_zero (bytes_at b.now at (end - at)) }
 {
+    let run = &b[at..end];
     let mut gathered: u64 = 0;
-    let mut p = at;
-    while 8 <= end - p {
-        gathered = gathered | read_u64(b, p);
-        p += 8;
+    for word in run.chunks_exact(8) {
+        gathered |= read_u64(word, 0);
     }
     if gathered != 0 {
         return false;
     }
-    fits_width(read_u64(b, end - 8), 8 - (end - p))
+    fits_width(read_u64(b, end - 8), 8 - run.len() % 8)
 }
 
 // The same for a run of at most `most` bytes. As many words are read however long the run is, so that no branch depends on it: they may
@@ -51,12 +50,10 @@ fn short_zero(b: &[u8], at: usize, end: usize, most: usize) -> bool
     ensures { result ≡ all_zero (bytes_at b.now at (end - at)) }
 {
     let last = end - 8;
-    let first = lesser(at, last);
+    let first = at.min(last);
     let mut gathered: u64 = 0;
-    let mut k = 0;
-    while k < most {
-        gathered = gathered | read_u64(b, lesser(first + k, last));
-        k += 8;
+    for k in 0..most.div_ceil(8) {
+        gathered |= read_u64(b, (first + 8 * k).min(last));
     }
     fits_width(gathered, at - first)
 }

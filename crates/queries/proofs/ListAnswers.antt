@@ -7,21 +7,32 @@ use mathlib.Core.Path.{◌≡◌, refl, sym, ap, ◌∙◌, subst}
 use mathlib.Core.List.{List, [], ◌∷◌, ◌++◌, map, map-append}
 use lib.ListN.{length}
 use lib.Pow.{ones_lt}
-use Rattle.layout.specs.Bits.{set_places}
+use mathlib.Core.Bool.{true}
+use Rattle.layout.specs.Bits.{has_bit, set_places}
 use Rattle.layout.specs.Tables.{record_numbers}
 use Rattle.layout.proofs.BitLaws.{has_below, has_low, places_set, places_beyond, map_places}
 use Rattle.layout.proofs.TableLaws.{numbers_join}
 use Rattle.reader.specs.Fields.{number_in}
-use Rattle.model.specs.State.{User, user_limit, user_numbers, pending_numbers, user_at}
-use Rattle.model.specs.Lookups.{user_slot, user_numbered}
+use Rattle.model.specs.State.{user_limit, user_numbers, pending_numbers, user_at, post_at, pending_at}
 use Rattle.model.specs.Board.{decode}
 use Rattle.model.specs.Answers.{users_in}
-use Rattle.model.proofs.ReadingLaws.{read-user_number, read-user-numbers, read-pending-numbers}
+use Rattle.model.proofs.ReadingLaws.{read-user_number, read-post_number, read-pending_number, read-user-numbers, read-pending-numbers}
 use Rattle.model.proofs.RuleLaws.{rules_of}
 use Rattle.model.proofs.SoundnessTheorems.{SoundState}
 use Rattle.model.proofs.SoundBoards.{users-limit, pending-limit}
+use Rattle.access.specs.Tables.{table_start, record_size, record_limit, field_place, record_count}
+use Rattle.access.specs.declared.tables.Table.{Table}
+use Rattle.access.specs.declared.tables.Table.TheVariants.{Users, Posts, Pending}
+use Rattle.access.proofs.TableReads.{count_below, field-within}
+use Rattle.queries.specs.QueryResults.{numbers_in}
 
--- ---- all records of a table: the bits of the first n are set
+-- a record's number is its first field
+number-room : (t : Table) → 0 + 4 ≤ record_size t
+number-room Users = omega arith
+number-room Posts = omega arith
+number-room Pending = omega arith
+
+-- ---- the first n records: the bits of the first n are set
 
 module _ (b : List ℕ) (base size n : ℕ) where
   abbrev number_at : ℕ → ℕ
@@ -47,39 +58,54 @@ module _ (b : List ℕ) (base size n : ℕ) where
       ∙ first_numbers n (le_refl n)
 
 module _ {b : List ℕ} (w : SoundState b) where
-  pub all_users : {n row : ℕ} → n ≡ length (decode b).users → row ≡ 2 ^ min n 32 - 1
-      → map (λ (i : ℕ). number_in b (16 + i * 104) 4) (set_places row user_limit) ≡ user_numbers (decode b)
-  all_users c e = all_numbers b 16 104 (length (decode b).users) (users-limit w) c e ∙ read-user-numbers w.encoded
+  -- ---- the records whose bits are set in a row: only records have bits
 
-  pub all_pending : {n row : ℕ} → n ≡ length (decode b).pending → row ≡ 2 ^ min n 32 - 1
-      → map (λ (i : ℕ). number_in b (23312 + i * 32) 4) (set_places row user_limit) ≡ pending_numbers (decode b)
-  all_pending c e =
-      let h = pending-limit w in
-      all_numbers b 23312 32 (length (decode b).pending) (omega arith) c e ∙ read-pending-numbers w.encoded
+  -- record j is one of the table, and its number lies where the table does
+  module _ (t : Table) {row : ℕ} (h : row < 2 ^ record_count (decode b) t) (j : ℕ) (set : has_bit row j ≡ true) where
+    pub listed-below : j < record_limit t
+    listed-below = let l = has_below row (record_count (decode b) t) j h set in omega (arith, count_below w t)
 
-  -- ---- the users whose bits are set in a row: only users have bits
+    pub listed-within : field_place t j 0 + 4 ≤ length b
+    listed-within = field-within w t j 0 4 (has_below row (record_count (decode b) t) j h set) (number-room t)
 
-  row-users : (row : ℕ) → row < 2 ^ length (decode b).users
-      → map (λ (i : ℕ). number_in b (16 + i * 104) 4) (set_places row user_limit) ≡ users_in (decode b) row
+  -- the numbers of the records are those of the state
+  pub listed : (t : Table) {row : ℕ} → row < 2 ^ record_count (decode b) t
+      → map (λ (i : ℕ). number_in b (table_start t + i * record_size t) 4) (set_places row user_limit) ≡ numbers_in (decode b) t row
   unfolding users_in
-  row-users row h =
+  listed Users {row = row} h =
       map_places (λ (i : ℕ). number_in b (16 + i * 104) 4) (λ (i : ℕ). (user_at (decode b) i).number) row user_limit
       (λ i t. read-user_number w.encoded i (has_below row (length (decode b).users) i h t))
+  listed Posts {row = row} h =
+      map_places (λ (i : ℕ). number_in b (3344 + i * 312) 4) (λ (i : ℕ). (post_at (decode b) i).number) row user_limit
+      (λ i t. read-post_number w.encoded i (has_below row (length (decode b).posts) i h t))
+  listed Pending {row = row} h =
+      map_places (λ (i : ℕ). number_in b (23312 + i * 32) 4) (λ (i : ℕ). (pending_at (decode b) i).number) row user_limit
+      (λ i t. read-pending_number w.encoded i (has_below row (length (decode b).pending) i h t))
 
-  -- u's row
-  module _ (u : ℕ) {slot row : ℕ} (h : slot < length (decode b).users) (p : slot ≡ user_slot (decode b) u) where
-    slot_row : (field : User → ℕ) → ((i : ℕ) → i < length (decode b).users → field (user_at (decode b) i) < 2 ^ length (decode b).users)
-        → row ≡ field (user_at (decode b) slot)
-        → map (λ (i : ℕ). number_in b (16 + i * 104) 4) (set_places row user_limit) ≡ users_in (decode b) (field (user_numbered (decode b) u))
-    unfolding user_numbered
-    slot_row field below q =
-        row-users row (subst (λ (x : ℕ). x < 2 ^ length (decode b).users) (sym q) (below slot h))
-        ∙ ap (users_in (decode b)) (q ∙ ap (λ (i : ℕ). field (user_at (decode b) i)) p)
+  -- ---- all records of a table
 
-    pub friends_listed : row ≡ (user_at (decode b) slot).friends
-        → map (λ (i : ℕ). number_in b (16 + i * 104) 4) (set_places row user_limit) ≡ users_in (decode b) (user_numbered (decode b) u).friends
-    friends_listed q = slot_row (λ (x : User). x.friends) (rules_of (decode b) w.keeps).friends-below q
+  module _ (t : Table) (few : record_count (decode b) t ≤ user_limit) {n row : ℕ} (c : n ≡ record_count (decode b) t) (e : row ≡ 2 ^ min n 32 - 1) where
+    pub all-below : row < 2 ^ record_count (decode b) t
+    all-below =
+        let k : min n 32 ≡ record_count (decode b) t = omega arith in
+        subst (λ (x : ℕ). x < 2 ^ record_count (decode b) t) (sym (e ∙ ap (λ (x : ℕ). 2 ^ x - 1) k)) (ones_lt (record_count (decode b) t))
 
-    pub requests_listed : row ≡ (user_at (decode b) slot).requests
-        → map (λ (i : ℕ). number_in b (16 + i * 104) 4) (set_places row user_limit) ≡ users_in (decode b) (user_numbered (decode b) u).requests
-    requests_listed q = slot_row (λ (x : User). x.requests) (rules_of (decode b) w.keeps).requests-below q
+    all_listed : numbers_in (decode b) t row ≡ record_numbers b (table_start t) (record_size t) (record_count (decode b) t)
+    all_listed =
+        sym (listed t all-below) ∙ all_numbers b (table_start t) (record_size t) (record_count (decode b) t) few c e
+
+  module _ {n row : ℕ} (e : row ≡ 2 ^ min n 32 - 1) where
+    pub all_users : n ≡ length (decode b).users → users_in (decode b) row ≡ user_numbers (decode b)
+    all_users c = all_listed Users (users-limit w) c e ∙ read-user-numbers w.encoded
+
+    pub all_pending : n ≡ length (decode b).pending → numbers_in (decode b) Pending row ≡ pending_numbers (decode b)
+    all_pending c = let l = pending-limit w in all_listed Pending (omega arith) c e ∙ read-pending-numbers w.encoded
+
+  -- ---- the rows of the user in a slot
+
+  module _ {slot row : ℕ} (h : slot < length (decode b).users) where
+    pub friends_below_lem : row ≡ (user_at (decode b) slot).friends → row < 2 ^ length (decode b).users
+    friends_below_lem q = subst (λ (x : ℕ). x < 2 ^ length (decode b).users) (sym q) ((rules_of (decode b) w.keeps).friends-below slot h)
+
+    pub requests_below_lem : row ≡ (user_at (decode b) slot).requests → row < 2 ^ length (decode b).users
+    requests_below_lem q = subst (λ (x : ℕ). x < 2 ^ length (decode b).users) (sym q) ((rules_of (decode b) w.keeps).requests-below slot h)

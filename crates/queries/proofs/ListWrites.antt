@@ -96,7 +96,7 @@ module _ (b : List ℕ) (base size row : ℕ) where
   numbers_none o = record { place = refl; entries = no_entries (to_le_bytes 4) o (head_size + 2) }
 
 module _ {b : List ℕ} {base size row : ℕ} {o out : List ℕ} {at j : ℕ} (w : NumbersWritten b base size row o out at j) where
-  pub numbers_keep : answer_limit ≤ length o → j ≤ user_limit → length out ≡ length o
+  numbers_keep : answer_limit ≤ length o → j ≤ user_limit → length out ≡ length o
   numbers_keep h l =
       let k = below_le b base size row j in
       entries_keep (to_le_bytes 4) 4 (length_to 4) o (head_size + 2) (numbers_below b base size row j) w.entries (omega arith)
@@ -144,7 +144,7 @@ numbers_all {b} {base} {size} {row} o {at = at} {j = j} {o₁ = o₁} h v e z w 
 
 module _ (s : State) (o : List ℕ) (i : ℕ) {out : List ℕ} (e : out ≡ patch o (head_size + 2) (flatten (map (post_entry s) (take i s.posts))))
     (h : answer_limit ≤ length o) (m : length s.posts ≤ post_limit) where
-  pub posts_keep : i ≤ length s.posts → length out ≡ length o
+  posts_keep : i ≤ length s.posts → length out ≡ length o
   posts_keep l =
       let k = length-take-le i s.posts l in
       entries_keep (post_entry s) 8 (length-post s) o (head_size + 2) (take i s.posts) e (omega arith)

@@ -1,21 +1,20 @@
 // Bodies of answers, written straight into the buffer; each function returns how many bytes it has written.
-ghost use Rattle.std.specs.Prelude.{◌≡◌, [], ◌∷◌, map, ◌+◌, ◌*◌, ◌≤◌, length};
+ghost use Rattle.std.specs.Prelude.{◌≡◌, [], ◌∷◌, ◌+◌, ◌^◌, ◌≤◌, ◌<◌, length};
 ghost use Rattle.layout.specs.Bytes.{bytes_at, bytes_written, put_bytes};
 ghost use Rattle.layout.specs.Numbers.{to_le_bytes};
-ghost use Rattle.layout.specs.Bits.{set_places};
 ghost use Rattle.reader.specs.Fields.{number_in};
-ghost use Rattle.model.specs.State.{user_limit};
-ghost use Rattle.model.specs.Board.{decode};
 ghost use Rattle.model.specs.Answers.{staff_list, counted_list, post_entry};
 ghost use Rattle.model.specs.Step.{answer_limit};
-ghost use Rattle.model.proofs.SoundnessTheorems.{SoundState};
-ghost use Rattle.queries.specs.QueryResults.{head_size};
+ghost use Rattle.access.specs.SoundBoards.{state_of};
+ghost use Rattle.access.specs.Tables.{record_count};
+ghost use Rattle.queries.specs.QueryResults.{head_size, numbers_in};
 
 use crate::HEAD_SIZE;
-use access::records::{post_count, post_number, post_owner, user_number};
+use access::sound_board::SoundBoard;
+use access::tables::Table;
 use board::USER_LIMIT;
 use layout::bits::{count_bits, has_bit};
-use layout::number::{read_u16, read_u32, write_u16, write_u32};
+use layout::number::{read_u16, read_u32, write_number};
 use layout::run::write_bytes;
 
 // Copies the string at a place of the board, with its length, to a place of the buffer.
@@ -28,61 +27,54 @@ pub(crate) fn copy_string(b: &[u8], at: usize, out: &mut [u8], to: usize) -> usi
     2 + n
 }
 
-// A single byte, and a number of four, as the whole body.
-pub(crate) fn write_byte(out: &mut [u8], x: u8) -> usize
-    requires { answer_limit ≤ length out.old }
-    ensures { bytes_written result out.new ≡ put_bytes out.old head_size (x ∷ []) }
+// The bytes of a field as the whole body.
+pub(crate) fn write_field(out: &mut [u8], field: &[u8]) -> usize
+    requires { (answer_limit ≤ length out.old) × (length field.now ≤ 4) }
+    ensures { bytes_written result out.new ≡ put_bytes out.old head_size field.now }
 {
-    out[HEAD_SIZE] = x;
-    1
-}
-
-pub(crate) fn write_number(out: &mut [u8], x: u32) -> usize
-    requires { answer_limit ≤ length out.old }
-    ensures { bytes_written result out.new ≡ put_bytes out.old head_size (to_le_bytes 4 x) }
-{
-    write_u32(out, HEAD_SIZE, x);
-    4
+    write_bytes(out, HEAD_SIZE, field);
+    field.len()
 }
 
 // The list of the numbers of those records of a table whose bits are set in a row: "The count before a friend list is the number of set bits
 // in the row."
-pub(crate) fn write_staff_list(
-    b: &[u8],
-    base: usize,
-    size: usize,
-    row: u32,
-    out: &mut [u8],
-) -> usize
-    requires { (4 ≤ size) × (base + user_limit * size ≤ length b.now) × (answer_limit ≤ length out.old) }
-    ensures { bytes_written result out.new ≡ put_bytes out.old head_size (staff_list (map (λ j. number_in b.now (base + j * size) 4) (set_places row user_limit))) }
+pub(crate) fn write_staff_list(board: &SoundBoard, table: Table, row: u32, out: &mut [u8]) -> usize
+    requires { (row < 2 ^ record_count (state_of board.now) table) × (answer_limit ≤ length out.old) }
+    ensures { bytes_written result out.new ≡ put_bytes out.old head_size (staff_list (numbers_in (state_of board.now) table row)) }
 {
-    write_u16(out, HEAD_SIZE, count_bits(row) as u16);
+    write_number(out, HEAD_SIZE, 2, count_bits(row) as u64);
+    // counted by hand: which of the row's 32 bits are set is not known before
     let mut at = HEAD_SIZE + 2;
-    let mut j = 0;
-    while j < USER_LIMIT {
+    for j in 0..USER_LIMIT {
         if has_bit(row, j) {
-            write_u32(out, at, read_u32(b, base + j * size));
+            write_number(
+                out,
+                at,
+                4,
+                read_u32(board.bytes, table.field_at(j, 0)) as u64,
+            );
             at += 4;
         }
-        j += 1;
     }
     at - HEAD_SIZE
 }
 
 // "posts, each number followed by its owner's"
-pub(crate) fn write_post_list(b: &[u8], out: &mut [u8]) -> usize
-    requires { SoundState b.now × (answer_limit ≤ length out.old) }
-    ensures { bytes_written result out.new ≡ put_bytes out.old head_size (counted_list (post_entry (decode b.now)) (decode b.now).posts) }
+pub(crate) fn write_post_list(board: &SoundBoard, out: &mut [u8]) -> usize
+    requires { answer_limit ≤ length out.old }
+    ensures { bytes_written result out.new ≡ put_bytes out.old head_size (counted_list (post_entry (state_of board.now)) (state_of board.now).posts) }
 {
-    let m = post_count(b);
-    write_u16(out, HEAD_SIZE, m as u16);
-    let mut i = 0;
-    while i < m {
+    let m = board.count(Table::Posts);
+    write_number(out, HEAD_SIZE, 2, m as u64);
+    for i in 0..m {
         let at = HEAD_SIZE + 2 + i * 8;
-        write_u32(out, at, post_number(b, i));
-        write_u32(out, at + 4, user_number(b, post_owner(b, i)));
-        i += 1;
+        write_number(out, at, 4, board.post_number(i) as u64);
+        write_number(
+            out,
+            at + 4,
+            4,
+            board.user_number(board.post_owner(i)) as u64,
+        );
     }
     2 + m * 8
 }

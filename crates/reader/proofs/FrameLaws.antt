@@ -5,6 +5,7 @@ use native.Mathlib.Nat.{zero-add}
 use native.Mathlib.Omega.{arith}
 use mathlib.Core.Path.{◌≡◌, refl, sym, ap, ap₂, ◌∙◌}
 use mathlib.Core.List.{List, [], ◌++◌, append_assoc, append-nil}
+use Rattle.std.specs.Prelude.{None, Some}
 use mathlib.Core.Bool.{Bool, true, false, ◌&&◌, not, cond, and-false}
 use lib.ListN.{length, take, drop, length-append, length-drop}
 use lib.Seq.{length-take-le, take_at, take-append-le, drop_at, drop-drop, drop-append-le}
@@ -17,7 +18,37 @@ use Rattle.layout.specs.Numbers.{to_le_bytes, from_le_bytes}
 use Rattle.layout.proofs.BooleanLaws.{and_left, and_right, and_both}
 use Rattle.layout.proofs.ByteLaws.{length-bytes_at, bytes_at-bytes_at, drop-split}
 use Rattle.layout.proofs.NumberLaws.{length_to, from_to, to_from, bytes-bytes_at}
-use Rattle.reader.specs.Frames.{length_field, frame_length_up_to, frame_length, is_frame, kind_of, body_of, frame_bytes}
+use Rattle.reader.specs.Frames.{length_field, found, frame_length_up_to, frame_length, is_frame, kind_of, body_of, frame_bytes}
+
+-- ---- a length that was looked for, and whether it was found
+
+pub found_none : {n : ℕ} → None ≡ found n → n ≡ 0
+unfolding found
+found_none {n} e = by_test (eqb n 0) refl e
+  where
+    by_test : (t : Bool) → eqb n 0 ≡ t → None ≡ cond t None (Some n) → n ≡ 0
+    by_test true z e = eqb-true n 0 z
+    by_test false z e = absurd (cc)
+
+pub found_is : {n k : ℕ} → Some k ≡ found n → k ≡ n
+unfolding found
+found_is {n} {k} e = by_test (eqb n 0) e
+  where
+    by_test : (t : Bool) → Some k ≡ cond t None (Some n) → k ≡ n
+    by_test true e = absurd (cc)
+    by_test false e = cc
+
+pub found_some : (n : ℕ) {k : ℕ} → Some k ≡ found n → k ≡ 0 → ⊥
+unfolding found
+found_some n {k} e z = let n_none = sym (found_is e) ∙ z in let q = rw n_none at e in cc
+
+pub none_found : {n : ℕ} → n ≡ 0 → None ≡ found n
+unfolding found
+none_found {n} z = rw z refl
+
+pub some_found : {n : ℕ} → (n ≡ 0 → ⊥) → Some n ≡ found n
+unfolding found
+some_found {n} h = rw (ne_eqb n 0 h) refl
 
 -- ---- the four conditions of a frame's length, read one by one
 

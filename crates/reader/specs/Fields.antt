@@ -3,11 +3,19 @@ use Rattle.std.specs.Prelude.{ℕ, ◌+◌, ◌-◌, ◌^◌, List, [], ◌∷�
 use Rattle.layout.specs.Bytes.{bytes_at}
 use Rattle.layout.specs.Numbers.{to_le_bytes, from_le_bytes}
 use Rattle.layout.specs.StringFields.{is_string, string_bytes}
+use Rattle.reader.specs.declared.field.Width.{Width}
+use Rattle.reader.specs.declared.field.Width.TheVariants.{One, Four, Eight}
 
 -- an unsigned number of `width` bytes from `least` to `greatest`, and a string of at most `limit` bytes
 pub data FieldType : Type 0 where
   uint : ℕ → ℕ → ℕ → FieldType
   string : ℕ → FieldType
+
+-- how many bytes a number has
+abbrev pub width_bytes : Width → ℕ
+width_bytes One = 1
+width_bytes Four = 4
+width_bytes Eight = 8
 
 -- "U, V: staff numbers (4 bytes, not 0). P: password (8 bytes). N: post number (4, not 0)." Staff and post numbers are of one type,
 -- and bodies that differ in these names alone have one reader.

@@ -1,5 +1,5 @@
 -- The frame: a two-byte length L, counting all bytes after it, then a two-byte kind, then the body.
-use Rattle.std.specs.Prelude.{ℕ, ◌+◌, List, ◌++◌, Bool, ◌&&◌, not, cond, length, drop, eqb, leb}
+use Rattle.std.specs.Prelude.{ℕ, ◌+◌, List, ◌++◌, Bool, ◌&&◌, not, cond, length, drop, eqb, leb, Option, None, Some}
 use Rattle.layout.specs.Bytes.{bytes_at}
 use Rattle.layout.specs.Numbers.{to_le_bytes, from_le_bytes}
 
@@ -18,6 +18,10 @@ frame_length_up_to most s =
 -- of a message: "L is 2 to 276"
 abbrev pub frame_length : List ℕ → ℕ
 frame_length = frame_length_up_to 276
+
+-- a length that was looked for, which is 0 where there is none
+unfoldable pub found : ℕ → Option ℕ
+found n = cond (eqb n 0) None (Some n)
 
 -- a message is one whole frame; else its refusal is 3
 unfoldable pub is_frame : List ℕ → Bool

@@ -1,5 +1,5 @@
 -- The message that bytes are, and what each case of the enum `Message` says.
-use Rattle.std.specs.Prelude.{ℕ, ◌+◌, List, [], ◌∷◌, Bool, false, cond, length, leb}
+use Rattle.std.specs.Prelude.{ℕ, ◌+◌, ◌≡◌, List, [], ◌∷◌, Bool, false, cond, length, leb, Result, Ok, Err, Option as Maybe, MatchOption}
 use Rattle.std.proofs.Math.Option.{Option, some, none}
 use Rattle.layout.specs.Bytes.{bytes_at}
 use Rattle.layout.specs.Numbers.{from_le_bytes}
@@ -81,6 +81,11 @@ enum_content body (LFriends l) = content 0x0605 (login_values l [])
 enum_content body (LFriendsOf l v) = content 0x0606 (login_values l (number_value v ∷ []))
 enum_content body (Refused r) = content (refusal_number r) []
 
+-- the same of a message that is read, or refused
+abbrev pub read_content : List ℕ → Result Message Refusal → Content
+read_content body (Ok m) = enum_content body m
+read_content body (Err r) = content (refusal_number r) []
+
 -- ---- what the family readers take from a body
 
 abbrev pub login_at : List ℕ → Login
@@ -93,3 +98,9 @@ span_at body at = record { start = at + 2; len = from_le_bytes (bytes_at body at
 unfoldable pub body_fits : Option (List FieldType) → List ℕ → Bool
 body_fits none body = false
 body_fits (some fs) body = fields_fit fs body 0
+
+-- what the reader of a family gives: the message that a body of a kind is, or none where it does not fit
+abbrev pub FamilyRead : Maybe Message → ℕ → List ℕ → Type 0
+FamilyRead o kind body =
+    MatchOption o (content 5 [] ≡ body_content kind (kind_fields kind) body)
+    (λ (m : Message). enum_content body m ≡ body_content kind (kind_fields kind) body)

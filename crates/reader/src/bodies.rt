@@ -1,110 +1,106 @@
-// Whole bodies: a test for each list of fields that kinds have, with what differs between them as a parameter.
-ghost use Rattle.std.specs.Prelude.{◌≡◌, true, ◌||◌, [], ◌∷◌, eqb};
-ghost use Rattle.reader.specs.Fields.{begins_login, begins_target, fields_fit, staff_number, password, uint, string, user_name, user_info};
+// Whole bodies: a reader for each list of fields that kinds have, as docs/FORMAT.md lists them, with what differs between kinds of one list as a
+// parameter. None where the body does not fit.
+ghost use Rattle.std.specs.Prelude.{◌≡◌, ◌+◌, [], ◌∷◌};
+ghost use Rattle.std.specs.Bool.{then_some};
+ghost use Rattle.reader.specs.Fields.{width_bytes, begins_login, begins_target, fields_fit, staff_number, password, uint, string, user_name, user_info, number_in};
+ghost use Rattle.reader.specs.Messages.{login_at, span_at};
 
-use crate::field::{number_fits, password_fits, staff_fits, string_fits};
-use crate::{INFO_LIMIT, NAME_LIMIT};
-use layout::number::read_u16;
+use crate::field::{Width, number, number_fits, password, span, staff_number};
+use crate::{INFO_LIMIT, Login, NAME_LIMIT, Span};
 
-// Whether a staff number and a password stand first.
-fn begins_login(body: &[u8]) -> bool
-    ensures { result ≡ begins_login body.now }
+// A staff number and a password, which stand first.
+fn read_login(body: &[u8]) -> Option<Login>
+    ensures { result ≡ then_some (begins_login body.now) (login_at body.now) }
 {
-    if !staff_fits(body, 0) {
-        return false;
-    }
-    password_fits(body, 4)
+    let user = staff_number(body, 0)?;
+    let password = password(body, 4)?;
+    Some(Login { user, password })
 }
 
-// Whether a staff number, a password and a staff or post number stand first.
-fn begins_target(body: &[u8]) -> bool
-    ensures { result ≡ begins_target body.now }
+// A staff number, a password and a staff or post number, which stand first.
+fn read_target(body: &[u8]) -> Option<(Login, u32)>
+    ensures { result ≡ then_some (begins_target body.now) (login_at body.now, number_in body.now 12 4) }
 {
-    if !begins_login(body) {
-        return false;
-    }
-    staff_fits(body, 12)
+    let login = read_login(body)?;
+    let number = staff_number(body, 12)?;
+    Some((login, number))
 }
 
 // U P
-pub(crate) fn fits_login(body: &[u8]) -> bool
-    ensures { result ≡ fields_fit (staff_number ∷ password ∷ []) body.now 0 }
+pub(crate) fn login(body: &[u8]) -> Option<Login>
+    ensures { result ≡ then_some (fields_fit (staff_number ∷ password ∷ []) body.now 0) (login_at body.now) }
 {
-    if !begins_login(body) {
-        return false;
+    let login = read_login(body)?;
+    if body.len() != 12 {
+        return None;
     }
-    body.len() == 12
+    Some(login)
 }
 
 // U and a string
-pub(crate) fn fits_string(body: &[u8], limit: usize) -> bool
-    ensures { result ≡ fields_fit (staff_number ∷ string limit ∷ []) body.now 0 }
+pub(crate) fn request(body: &[u8], limit: usize) -> Option<(u32, Span)>
+    ensures { result ≡ then_some (fields_fit (staff_number ∷ string limit ∷ []) body.now 0) (number_in body.now 0 4, span_at body.now 4) }
 {
-    if !staff_fits(body, 0) {
-        return false;
+    let user = staff_number(body, 0)?;
+    let note = span(body, 4, limit)?;
+    if body.len() != note.start + note.len {
+        return None;
     }
-    if !string_fits(body, 4, limit) {
-        return false;
-    }
-    let n = read_u16(body, 4) as usize;
-    body.len() == 6 + n
+    Some((user, note))
 }
 
 // U P and a staff or post number
-pub(crate) fn fits_target(body: &[u8]) -> bool
-    ensures { result ≡ fields_fit (staff_number ∷ password ∷ staff_number ∷ []) body.now 0 }
+pub(crate) fn target(body: &[u8]) -> Option<(Login, u32)>
+    ensures { result ≡ then_some (fields_fit (staff_number ∷ password ∷ staff_number ∷ []) body.now 0) (login_at body.now, number_in body.now 12 4) }
 {
-    if !begins_target(body) {
-        return false;
+    let target = read_target(body)?;
+    if body.len() != 16 {
+        return None;
     }
-    body.len() == 16
+    Some(target)
 }
 
 // U P, a staff or post number, and another number
-pub(crate) fn fits_target_number(body: &[u8], width: usize, least: u64, greatest: u64) -> bool
-    requires { (eqb width 1 || (eqb width 4 || eqb width 8)) ≡ true }
-    ensures { result ≡ fields_fit (staff_number ∷ password ∷ staff_number ∷ uint width least greatest ∷ []) body.now 0 }
+pub(crate) fn target_number(
+    body: &[u8],
+    width: Width,
+    least: u64,
+    greatest: u64,
+) -> Option<(Login, u32, u64)>
+    ensures { result ≡ then_some (fields_fit (staff_number ∷ password ∷ staff_number ∷ uint (width_bytes width) least greatest ∷ []) body.now 0) (login_at body.now, number_in body.now 12 4, number_in body.now 16 (width_bytes width)) }
 {
-    if !begins_target(body) {
-        return false;
-    }
+    let (login, target) = read_target(body)?;
     if !number_fits(body, 16, width, least, greatest) {
-        return false;
+        return None;
     }
-    body.len() == 16 + width
+    if body.len() != 16 + width.bytes() {
+        return None;
+    }
+    Some((login, target, number(body, 16, width)))
 }
 
 // U P, a staff or post number, and a string
-pub(crate) fn fits_target_string(body: &[u8], limit: usize) -> bool
-    ensures { result ≡ fields_fit (staff_number ∷ password ∷ staff_number ∷ string limit ∷ []) body.now 0 }
+pub(crate) fn target_string(body: &[u8], limit: usize) -> Option<(Login, u32, Span)>
+    ensures { result ≡ then_some (fields_fit (staff_number ∷ password ∷ staff_number ∷ string limit ∷ []) body.now 0) (login_at body.now, number_in body.now 12 4, span_at body.now 16) }
 {
-    if !begins_target(body) {
-        return false;
+    let (login, target) = read_target(body)?;
+    let text = span(body, 16, limit)?;
+    if body.len() != text.start + text.len {
+        return None;
     }
-    if !string_fits(body, 16, limit) {
-        return false;
-    }
-    let n = read_u16(body, 16) as usize;
-    body.len() == 18 + n
+    Some((login, target, text))
 }
 
 // U P, a new password, a name and an info
-pub(crate) fn fits_user(body: &[u8]) -> bool
-    ensures { result ≡ fields_fit (staff_number ∷ password ∷ password ∷ user_name ∷ user_info ∷ []) body.now 0 }
+pub(crate) fn user(body: &[u8]) -> Option<(Login, u64, Span, Span)>
+    ensures { result ≡ then_some (fields_fit (staff_number ∷ password ∷ password ∷ user_name ∷ user_info ∷ []) body.now 0) (login_at body.now, number_in body.now 12 8, span_at body.now 20, span_at body.now (22 + number_in body.now 20 2)) }
 {
-    if !begins_login(body) {
-        return false;
+    let login = read_login(body)?;
+    let password = password(body, 12)?;
+    let name = span(body, 20, NAME_LIMIT)?;
+    let info = span(body, name.start + name.len, INFO_LIMIT)?;
+    if body.len() != info.start + info.len {
+        return None;
     }
-    if !password_fits(body, 12) {
-        return false;
-    }
-    if !string_fits(body, 20, NAME_LIMIT) {
-        return false;
-    }
-    let n = read_u16(body, 20) as usize;
-    if !string_fits(body, 22 + n, INFO_LIMIT) {
-        return false;
-    }
-    let i = read_u16(body, 22 + n) as usize;
-    body.len() == 24 + n + i
+    Some((login, password, name, info))
 }

@@ -8,12 +8,12 @@ pub mod frame;
 
 ghost use Rattle.std.specs.Prelude.{◌≡◌};
 ghost use Rattle.reader.specs.Frames.{body_of};
-ghost use Rattle.reader.specs.Messages.{enum_content, message_content};
+ghost use Rattle.reader.specs.Messages.{enum_content, read_content, message_content, refusal_number};
 
 use crate::family::{
     creation_action, deletion_action, listing_action, reading_action, start_action, update_action,
 };
-use crate::frame::{body, frame_length, kind};
+use crate::frame::{body, is_frame, kind};
 
 // The limits of strings, in bytes.
 pub const NAME_LIMIT: usize = 24;
@@ -33,7 +33,8 @@ pub struct Login {
     pub password: u64,
 }
 
-// The place of a string: within the body of a message, or in the bytes that are lent to write one.
+// The place of a string: within the body of a message, or in the bytes that are lent to write one. No slice, since the writer has to refuse a place
+// that reaches past the lent bytes.
 #[derive(Clone, Copy)]
 pub struct Span {
     pub start: usize,
@@ -41,14 +42,26 @@ pub struct Span {
 }
 
 // Refusals 3, 4 and 5: a bad frame, an unknown kind, a body that does not fit its fields.
-#[derive(Clone, Copy)]
+#[derive(Clone, Copy, Debug, PartialEq, Eq)]
 pub enum Refusal {
     Frame,
     Kind,
     Body,
 }
 
-// A message: a case for each kind with its fields, named by CoSMed's action, or the refusal.
+impl From<Refusal> for u16 {
+    ghost from_gives = { λ refusal number. number ≡ refusal_number refusal };
+
+    fn from(refusal: Refusal) -> u16 {
+        match refusal {
+            Refusal::Frame => 3,
+            Refusal::Kind => 4,
+            Refusal::Body => 5,
+        }
+    }
+}
+
+// A message: a case for each kind with its fields, named by CoSMed's action, or the refusal, which the bureau wants as a case of the same enum.
 #[derive(Clone, Copy)]
 pub enum Message {
     // 0101 U P
@@ -73,7 +86,7 @@ pub enum Message {
     UTextPost(Login, u32, Span),
     // 0404 U P N picture
     UImgPost(Login, u32, u32),
-    // 0405 U P N visibility
+    // 0405 U P N visibility: a number, since the writer has to refuse one above 1
     UVisPost(Login, u32, u8),
     // 0501 U P V
     RUser(Login, u32),
@@ -101,26 +114,32 @@ pub enum Message {
     Refused(Refusal),
 }
 
-// The message that bytes are.
-pub fn decode(msg: &[u8]) -> Message
-    ensures { enum_content (body_of msg.now) result ≡ message_content msg.now }
+// The message that bytes are, or why they are none.
+fn read_message(msg: &[u8]) -> Result<Message, Refusal>
+    ensures { read_content (body_of msg.now) result ≡ message_content msg.now }
 {
-    let n = frame_length(msg);
-    if n == 0 {
-        return Message::Refused(Refusal::Frame);
-    }
-    if n != msg.len() {
-        return Message::Refused(Refusal::Frame);
+    if !is_frame(msg) {
+        return Err(Refusal::Frame);
     }
     let kind = kind(msg);
     let body = body(msg);
     match kind {
-        0x0101 => start_action(body),
-        0x0201..=0x0205 => creation_action(kind, body),
-        0x0301 => deletion_action(body),
-        0x0401..=0x0405 => update_action(kind, body),
-        0x0501..=0x050a => reading_action(kind, body),
-        0x0601..=0x0606 => listing_action(kind, body),
-        _ => Message::Refused(Refusal::Kind),
+        0x0101 => start_action(body).ok_or(Refusal::Body),
+        0x0201..=0x0205 => creation_action(kind, body).ok_or(Refusal::Body),
+        0x0301 => deletion_action(body).ok_or(Refusal::Body),
+        0x0401..=0x0405 => update_action(kind, body).ok_or(Refusal::Body),
+        0x0501..=0x050a => reading_action(kind, body).ok_or(Refusal::Body),
+        0x0601..=0x0606 => listing_action(kind, body).ok_or(Refusal::Body),
+        _ => Err(Refusal::Kind),
+    }
+}
+
+// The same as one of the cases of the enum, of which the refusal is one.
+pub fn decode(msg: &[u8]) -> Message
+    ensures { enum_content (body_of msg.now) result ≡ message_content msg.now }
+{
+    match read_message(msg) {
+        Ok(message) => message,
+        Err(refusal) => Message::Refused(refusal),
     }
 }

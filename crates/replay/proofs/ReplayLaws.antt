@@ -6,8 +6,9 @@ use mathlib.Core.Path.{◌≡◌, refl, sym, ap, ◌∙◌, subst}
 use mathlib.Core.List.{List}
 use mathlib.Core.Bool.{Bool, true, false, cond}
 use lib.ListN.{length, take, drop, length-drop}
+use lib.Dec.{eqb}
 use lib.Pow.{are_bytes}
-use borrow.Author.Tests.{eq-eqb, ne_eqb, lt-ltb, le-ltb}
+use borrow.Author.Tests.{eqb-false, eq-eqb, ne_eqb, lt-ltb, le-ltb}
 use borrow.Author.Rules.{part_to_end}
 use borrow.Rule.Slice.PartMut.{put_mid}
 use Rattle.layout.proofs.ByteLaws.{put_rest}
@@ -41,33 +42,33 @@ module _ (j b o : List ℕ) where
       subst (λ (r : Replayed). Replays j b o r b o) (sym e)
       (record { same = f; messages = omega arith; passed = omega arith; written = omega arith })
 
-  pub journal_used_lem : {r : Replayed} → r ≡ none_done JournalUsed → length j ≡ 0 → Replays j b o r b o
+  pub journal_used_lem : {r : Replayed} → r ≡ none_done JournalUsed → eqb (length j) 0 ≡ true → Replays j b o r b o
   unfolding replay_in
-  journal_used_lem e z = at_once JournalUsed e by_count
+  journal_used_lem e t = at_once JournalUsed e by_count
     where
       by_count : (count : ℕ) → length j ≤ count → stopped 0 b o ≡ replay_in count j b o
       by_count zero h = refl
-      by_count (suc count) h = rw (eq-eqb (length j) 0 z) refl
+      by_count (suc count) h = rw t refl
 
-  pub buffer-short : {r : Replayed} → r ≡ none_done BufferShort → (length j ≡ 0 → ⊥) → length o < answer_limit → Replays j b o r b o
+  pub buffer-short : {r : Replayed} → r ≡ none_done BufferShort → eqb (length j) 0 ≡ false → length o < answer_limit → Replays j b o r b o
   unfolding replay_in
   buffer-short e n l = at_once BufferShort e by_count
     where
       by_count : (count : ℕ) → length j ≤ count → stopped 2 b o ≡ replay_in count j b o
-      by_count zero h = absurd (n (omega arith))
-      by_count (suc count) h = rw (ne_eqb (length j) 0 n) (rw (lt-ltb (length o) answer_limit l) refl)
+      by_count zero h = absurd (eqb-false (length j) 0 n (omega arith))
+      by_count (suc count) h = rw n (rw (lt-ltb (length o) answer_limit l) refl)
 
-  pub frame-cut : {r : Replayed} → r ≡ none_done FrameCut → (length j ≡ 0 → ⊥) → answer_limit ≤ length o → frame_length j ≡ 0 → Replays j b o r b o
+  pub frame-cut : {r : Replayed} → r ≡ none_done FrameCut → eqb (length j) 0 ≡ false → answer_limit ≤ length o → frame_length j ≡ 0 → Replays j b o r b o
   unfolding replay_in
   frame-cut e n l z = at_once FrameCut e by_count
     where
       by_count : (count : ℕ) → length j ≤ count → stopped 3 b o ≡ replay_in count j b o
-      by_count zero h = absurd (n (omega arith))
-      by_count (suc count) h = rw (ne_eqb (length j) 0 n) (rw (le-ltb (length o) answer_limit l) (rw (eq-eqb (frame_length j) 0 z) refl))
+      by_count zero h = absurd (eqb-false (length j) 0 n (omega arith))
+      by_count (suc count) h = rw n (rw (le-ltb (length o) answer_limit l) (rw (eq-eqb (frame_length j) 0 z) refl))
 
   -- a message was done: a is its answer, b₁ and o₁ what it left, and r, b₂ and o₂ what the rest came to
   module _ (y : are_bytes b ≡ true) (n : ℕ) (a : Answer) (b₁ o₁ : List ℕ) (r : Replayed) (b₂ o₂ : List ℕ)
-      (more : length j ≡ 0 → ⊥)
+      (more : eqb (length j) 0 ≡ false)
       (room : answer_limit ≤ length o)
       (is : n ≡ frame_length j)
       (whole : n ≡ 0 → ⊥)
@@ -87,9 +88,9 @@ module _ (j b o : List ℕ) where
 
     by_count : (count : ℕ) → length j ≤ count → replayed joined b₂ (put_mid a.written (length o₁ - a.written) o₁ o₂) ≡ replay_in count j b o
     unfolding replay_in continued
-    by_count zero h = absurd (more (omega arith))
+    by_count zero h = absurd (eqb-false (length j) 0 more (omega arith))
     by_count (suc count) h =
-        simp (ne_eqb _ _ more, le-ltb _ _ room, ← is, ne_eqb _ _ whole, ← done, put_rest o₁ a.written o₂ inside)
+        simp (more, le-ltb _ _ room, ← is, ne_eqb _ _ whole, ← done, put_rest o₁ a.written o₂ inside)
         (ap (continued n (stepped a b₁ o₁)) (behind.same count (omega (arith, length-drop n j))))
 
     pub message-done : Replays j b o joined b₂ (put_mid a.written (length o₁ - a.written) o₁ o₂)

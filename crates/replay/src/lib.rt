@@ -4,20 +4,28 @@
 ghost use Rattle.std.specs.Prelude.{◌≡◌, true};
 ghost use Rattle.model.specs.Soundness.{is_sound};
 ghost use Rattle.model.specs.Replay.{replay_of};
-ghost use Rattle.replay.specs.Results.{replayed};
+ghost use Rattle.replay.specs.Results.{stop_number, replayed};
 ghost use Rattle.replay.specs.RestResults.{none_done, Replays};
 
 use board::sound;
 use reader::frame::frame_length;
 use step::{ANSWER_LIMIT, step_sound};
 
-// Why a replay stopped.
-#[derive(Clone, Copy)]
+// Why a replay stopped, with the number that callers see.
+#[derive(Clone, Copy, PartialEq, Eq, Debug)]
 pub enum Stop {
-    JournalUsed,
-    BoardUnsound,
-    BufferShort,
-    FrameCut,
+    JournalUsed = 0,
+    BoardUnsound = 1,
+    BufferShort = 2,
+    FrameCut = 3,
+}
+
+impl From<Stop> for u32 {
+    ghost from_gives = { λ stop number. number ≡ stop_number stop };
+
+    fn from(stop: Stop) -> u32 {
+        stop as u32
+    }
 }
 
 // Why it stopped, the messages done, the journal bytes passed and the answer bytes written.
@@ -46,29 +54,22 @@ fn replay_rest(journal: &[u8], board: &mut [u8], out: &mut [u8]) -> Replayed
     requires { is_sound board.old ≡ true }
     ensures { Replays journal.now board.old out.old result board.new out.new }
 {
-    let len = journal.len();
-    if len == 0 {
+    if journal.is_empty() {
         return stopped(Stop::JournalUsed);
     }
     if out.len() < ANSWER_LIMIT {
         return stopped(Stop::BufferShort);
     }
-    let size = frame_length(journal);
-    if size == 0 {
+    let Some(size) = frame_length(journal) else {
         return stopped(Stop::FrameCut);
-    }
+    };
     let answer = step_sound(&journal[..size], board, out);
-    let written = answer.written;
-    let rest = replay_rest(&journal[size..], board, &mut out[written..]);
-    let stop = rest.stop;
-    let messages = 1 + rest.messages;
-    let passed = size + rest.passed;
-    let all_written = written + rest.written;
+    let rest = replay_rest(&journal[size..], board, &mut out[answer.written..]);
     Replayed {
-        stop,
-        messages,
-        passed,
-        written: all_written,
+        stop: rest.stop,
+        messages: 1 + rest.messages,
+        passed: size + rest.passed,
+        written: answer.written + rest.written,
     }
 }
 

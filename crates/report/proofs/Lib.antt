@@ -1,3 +1,4 @@
+pub mod TextLaws
 pub mod LineLaws
 pub mod MessageLineLaws
 pub mod RunLines

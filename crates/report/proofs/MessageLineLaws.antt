@@ -1,5 +1,5 @@
--- The lines of a replay's messages, written one behind the other.
-use Prim.Native.Nat.{ℕ, zero, suc, ◌+◌, ◌-◌, ◌*◌, ◌≤◌}
+-- The lines of a replay's messages, one behind the other.
+use Prim.Native.Nat.{ℕ, zero, suc, ◌-◌, ◌*◌, ◌≤◌}
 use native.Mathlib.Omega.{arith}
 use mathlib.Core.Path.{◌≡◌, refl, sym, ap, ap₂, ◌∙◌}
 use mathlib.Core.List.{List, [], ◌++◌}
@@ -9,8 +9,6 @@ use lib.Dec.{eqb}
 use borrow.Author.Tests.{eq-eqb, ne_eqb, eqb-true, eqb-false}
 use borrow.Table.Steps.{cases}
 use borrow.Author.Rules.{part_to_end}
-use Rattle.layout.specs.Bytes.{bytes_written, put_bytes}
-use Rattle.layout.proofs.WrittenLaws.{put_count, put_nothing, put-behind}
 use Rattle.reader.proofs.FrameLaws.{frame_at}
 use Rattle.reader.specs.Frames.{length_field, frame_length, kind_of}
 use Rattle.report.specs.Report.{hexadecimal, decimal, ok_word, no_word, space, line_feed, message_line}
@@ -30,23 +28,18 @@ line-short kind number size = by_test (eqb number 0)
     by_test true = with_word ok_word size refl
     by_test false = with_word no_word number refl
 
-pub line-size : (t : List ℕ) (at kind number size : ℕ) {n : ℕ} {t' : List ℕ} → bytes_written n t' ≡ put_bytes t at (message_line kind number size) → n ≤ 14
-line-size t at kind number size e =
-    let l = line-short kind number size in
-    omega (arith, put_count t at (message_line kind number size) e)
-
 -- the lines of no message, of no frame, of no answer
-lines_none : (count : ℕ) (j a : List ℕ) → count ≡ 0 → lines_in count j a ≡ []
+pub lines_none : (count : ℕ) (j a : List ℕ) → count ≡ 0 → lines_in count j a ≡ []
 unfolding lines_in
 lines_none zero j a e = refl
 lines_none (suc count) j a e = absurd (omega arith)
 
-lines_no_frame : (count : ℕ) (j a : List ℕ) → frame_length j ≡ 0 → lines_in count j a ≡ []
+pub lines_no_frame : (count : ℕ) (j a : List ℕ) → frame_length j ≡ 0 → lines_in count j a ≡ []
 unfolding lines_in
 lines_no_frame zero j a e = refl
 lines_no_frame (suc count) j a e = rw (eq-eqb (frame_length j) 0 e) refl
 
-lines_no_answer : (count : ℕ) (j a : List ℕ) → (frame_length j ≡ 0 → ⊥) → answer_length a ≡ 0 → lines_in count j a ≡ []
+pub lines_no_answer : (count : ℕ) (j a : List ℕ) → (frame_length j ≡ 0 → ⊥) → answer_length a ≡ 0 → lines_in count j a ≡ []
 unfolding lines_in
 lines_no_answer zero j a n e = refl
 lines_no_answer (suc count) j a n e = rw (ne_eqb (frame_length j) 0 n) (rw (eq-eqb (answer_length a) 0 e) refl)
@@ -82,31 +75,13 @@ lines_short (suc count) j a =
     let later : length more ≤ 14 * count = rw one (lines_short count (drop (frame_length j) j) (drop (answer_length a) a)) in
     omega arith))
 
--- ---- what `write_lines` has written at each of its returns
-
-module _ (t : List ℕ) (at count : ℕ) (j a : List ℕ) where
-  pub none_left : count ≡ 0 → bytes_written 0 t ≡ put_bytes t at (lines_in count j a)
-  none_left e = sym (ap (put_bytes t at) (lines_none count j a e) ∙ put_nothing t at)
-
-  pub no_frame_lem : frame_length j ≡ 0 → bytes_written 0 t ≡ put_bytes t at (lines_in count j a)
-  no_frame_lem e = sym (ap (put_bytes t at) (lines_no_frame count j a e) ∙ put_nothing t at)
-
-  pub no_answer : (frame_length j ≡ 0 → ⊥) → answer_length a ≡ 0 → bytes_written 0 t ≡ put_bytes t at (lines_in count j a)
-  no_answer n e = sym (ap (put_bytes t at) (lines_no_answer count j a n e) ∙ put_nothing t at)
-
-  -- a line, and the lines of the rest
-  pub line_in_front : {size answer n m kind number : ℕ} {t₁ t₂ : List ℕ} → size ≡ frame_length j → answer ≡ answer_length a → (count ≡ 0 → ⊥)
-      → (size ≡ 0 → ⊥) → (answer ≡ 0 → ⊥) → at + 14 * count ≤ length t
-      → kind ≡ kind_of j → number ≡ kind_of a → bytes_written n t₁ ≡ put_bytes t at (message_line kind number (answer - 4))
-      → bytes_written m t₂ ≡ put_bytes t₁ (at + n) (lines_in (count - 1) (take (length j - size) (drop size j)) (take (length a - answer) (drop answer a)))
-      → bytes_written (n + m) t₂ ≡ put_bytes t at (lines_in count j a)
-  line_in_front {size} {answer} {kind = kind} {number = number} p q c s w room k l e f =
-      let rest : List ℕ = lines_in (count - 1) (take (length j - size) (drop size j)) (take (length a - answer) (drop answer a)) in
-      let h = line-short kind number (answer - 4) in
-      let g = lines_short (count - 1) (take (length j - size) (drop size j)) (take (length a - answer) (drop answer a)) in
-      put-behind t at (message_line kind number (answer - 4)) rest (omega arith) e refl f
-      ∙ ap (put_bytes t at)
-      (ap₂ (λ (x y : List ℕ). x ++ y)
-      (ap₂ (λ (f : ℕ → List ℕ) (i : ℕ). f i) (ap₂ message_line k l) (ap (λ (i : ℕ). i - 4) q))
-      (ap₂ (lines_in (count - 1)) (part_to_end j size ∙ ap (λ (i : ℕ). drop i j) p) (part_to_end a answer ∙ ap (λ (i : ℕ). drop i a) q))
-      ∙ sym (lines_next count j a c (λ z. s (p ∙ z)) (λ z. w (q ∙ z))))
+-- a line, and the lines of the rest, as `write_lines` finds the parts of journal and answers
+pub line_in_front : (count : ℕ) (j a : List ℕ) {size answer kind number : ℕ} → size ≡ frame_length j → answer ≡ answer_length a → (count ≡ 0 → ⊥)
+    → (size ≡ 0 → ⊥) → (answer ≡ 0 → ⊥) → kind ≡ kind_of j → number ≡ kind_of a
+    → message_line kind number (answer - 4) ++ lines_in (count - 1) (take (length j - size) (drop size j)) (take (length a - answer) (drop answer a))
+    ≡ lines_in count j a
+line_in_front count j a {size} {answer} p q c s w k l =
+    ap₂ (λ (x y : List ℕ). x ++ y)
+    (ap₂ (λ (f : ℕ → List ℕ) (i : ℕ). f i) (ap₂ message_line k l) (ap (λ (i : ℕ). i - 4) q))
+    (ap₂ (lines_in (count - 1)) (part_to_end j size ∙ ap (λ (i : ℕ). drop i j) p) (part_to_end a answer ∙ ap (λ (i : ℕ). drop i a) q))
+    ∙ sym (lines_next count j a c (λ z. s (p ∙ z)) (λ z. w (q ∙ z)))

@@ -8,9 +8,10 @@ use lib.ListN.{length}
 use lib.Dec.{ltb}
 use borrow.Author.Tests.{lt-ltb, le-ltb, ltb-true, ltb-false}
 use borrow.Table.Steps.{cases}
-use Rattle.layout.specs.Bytes.{patch, write_at, bytes_written, put_bytes}
+use Rattle.std.specs.Prelude.{Result, Ok, Err}
+use Rattle.layout.specs.Bytes.{patch, bytes_written, put_bytes}
 use Rattle.layout.proofs.ByteLaws.{length-patch}
-use Rattle.layout.proofs.WrittenLaws.{bytes-put-within, put_count, put-buffer}
+use Rattle.layout.proofs.WrittenLaws.{put_count, put-buffer}
 use Rattle.model.specs.State.{State, empty_state}
 use Rattle.model.specs.Board.{empty_board, decode}
 use Rattle.model.proofs.BoardTheorems.{decode-encode}
@@ -18,8 +19,7 @@ use Rattle.model.proofs.EmptyBoard.{empty-encoded}
 use Rattle.model.proofs.Invariant.{empty-valid}
 use Rattle.report.specs.Report.{journal_limit, long_word, line_feed, run_text, report_of}
 use Rattle.report.specs.Results.{report_limit, ReportResult, written_size, reported, text_result, report_result}
-use Rattle.report.specs.declared.Report.{Report}
-use Rattle.report.specs.declared.Report.TheVariants.{Written, TooShort}
+use Rattle.report.specs.declared.TooShort.{TooShort}
 use Rattle.report.proofs.ReplayText.{text_short}
 
 -- ---- the report, by the length of the journal
@@ -61,12 +61,12 @@ module _ (limit : ℕ) (x t : List ℕ) where
   written_text room e = ap₂ (λ (k : ℕ) (y : List ℕ). result (some k) y) (put_count t 0 x e) (put-buffer t 0 x e) ∙ in_full room
 
   -- what was written lies within the buffer
-  pub written-inside : length x ≤ limit → (r : Report) {t' : List ℕ} → reported r t' ≡ text_result limit x t → written_size r ≤ length t'
-  written-inside short TooShort e = omega arith
-  written-inside short (Written n) {t'} e =
+  pub written-inside : length x ≤ limit → (r : Result ℕ TooShort) {t' : List ℕ} → reported r t' ≡ text_result limit x t → written_size r ≤ length t'
+  written-inside short (Err x) e = omega arith
+  written-inside short (Ok n) {t'} e =
       cases (ltb (length t) limit)
       (λ q.
-      let z : some n ≡ none = ap (λ (r : ReportResult). r.size) (e ∙ sym (too_short (ltb-true (length t) limit q))) in
+      let z : some n ≡ none = ap (λ (y : ReportResult). y.size) (e ∙ sym (too_short (ltb-true (length t) limit q))) in
       let f : ◌≡◌ {A = ℕ} 0 1 = cc in
       omega arith)
       (λ q.
@@ -81,12 +81,11 @@ decode-empty : decode empty_board ≡ empty_state
 decode-empty = ap decode (sym empty-encoded) ∙ decode-encode empty_state empty-valid.fits
 
 module _ (j t : List ℕ) (room : report_limit ≤ length t) where
-  pub too_long : {t' : List ℕ} → journal_limit < length j → t' ≡ write_at t 0 (long_word ++ line_feed) → result (some 5) t' ≡ report_result j t
+  pub too_long : {n : ℕ} {t' : List ℕ} → journal_limit < length j → bytes_written n t' ≡ put_bytes t 0 (long_word ++ line_feed)
+      → result (some n) t' ≡ report_result j t
   unfolding report_result
   too_long l e =
-      let x : List ℕ = long_word ++ line_feed in
-      written_text report_limit x t room (bytes-put-within t 0 x refl (omega arith) e)
-      ∙ ap (λ (y : List ℕ). text_result report_limit y t) (sym (text_long j l))
+      written_text report_limit (long_word ++ line_feed) t room e ∙ ap (λ (y : List ℕ). text_result report_limit y t) (sym (text_long j l))
 
   pub replayed_text : {n : ℕ} {t' : List ℕ} → length j ≤ journal_limit → bytes_written n t' ≡ put_bytes t 0 (run_text (decode empty_board) 0 j)
       → result (some n) t' ≡ report_result j t

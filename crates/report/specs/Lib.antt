@@ -1,3 +1,4 @@
 pub mod Report
 pub mod MessageLines
 pub mod Results
+pub mod Texts

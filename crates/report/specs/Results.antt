@@ -1,10 +1,9 @@
 -- What `lines` has returned, and left in the text buffer.
-use Rattle.std.specs.Prelude.{ℕ, ◌+◌, ◌*◌, ◌/◌, List, cond, length, ltb}
+use Rattle.std.specs.Prelude.{ℕ, ◌+◌, ◌*◌, ◌/◌, List, Result, Ok, Err, cond, length, ltb}
 use Rattle.std.proofs.Math.Option.{Option, some, none}
 use Rattle.layout.specs.Bytes.{patch}
 use Rattle.report.specs.Report.{journal_limit, report_of}
-use Rattle.report.specs.declared.Report.{Report}
-use Rattle.report.specs.declared.Report.TheVariants.{Written, TooShort}
+use Rattle.report.specs.declared.TooShort.{TooShort}
 
 -- no text is longer (`report_short` of ReportLaws): 15,000 lines of at most fourteen bytes, and one of ten
 abbrev pub report_limit : ℕ
@@ -15,16 +14,16 @@ pub record ReportResult : Type 0 where
   pub text : List ℕ
 
 -- how many bytes were written, none where the text buffer is too short
-abbrev pub report_size : Report → Option ℕ
-report_size (Written n) = some n
-report_size TooShort = none
+abbrev pub report_size : Result ℕ TooShort → Option ℕ
+report_size (Ok n) = some n
+report_size (Err e) = none
 
 -- .. and as a number, 0 where it is
-abbrev pub written_size : Report → ℕ
-written_size (Written n) = n
-written_size TooShort = 0
+abbrev pub written_size : Result ℕ TooShort → ℕ
+written_size (Ok n) = n
+written_size (Err e) = 0
 
-abbrev pub reported : Report → List ℕ → ReportResult
+abbrev pub reported : Result ℕ TooShort → List ℕ → ReportResult
 reported r t = record { size = report_size r; text = t }
 
 -- a text in a buffer that has to have room for `limit` bytes: one that is too short is left as it was; in one that is not, the text stands first,

@@ -1,7 +1,7 @@
 -- From what an action's function ensures to the contract of `act`: the message that `decode` has read is that action.
 use Prim.Native.Nat.{ℕ, ◌+◌, ◌≤◌}
 use native.Mathlib.Omega.{arith}
-use mathlib.Core.Path.{◌≡◌, sym, ap, ◌∙◌, subst}
+use mathlib.Core.Path.{◌≡◌, refl, sym, ap, ◌∙◌, subst}
 use mathlib.Core.List.{List}
 use mathlib.Core.Bool.{true}
 use lib.ListN.{length}
@@ -11,11 +11,15 @@ use Rattle.layout.specs.StringFields.{is_string}
 use Rattle.layout.proofs.ByteLaws.{length-bytes_at}
 use Rattle.layout.proofs.StringFieldLaws.{string_by}
 use Rattle.reader.specs.Frames.{body_of}
-use Rattle.reader.specs.Messages.{enum_content, message_content, refusal_number}
+use Rattle.reader.specs.Messages.{enum_content, message_content}
 use Rattle.reader.specs.Spans.{SpanWithin, SpansWithin}
 use Rattle.reader.specs.declared.Login.{Login}
 use Rattle.reader.specs.declared.Span.{Span}
-use Rattle.reader.specs.declared.Refusal.{Refusal}
+use Rattle.access.specs.Refusals.{result_number}
+use Rattle.access.specs.declared.refusals.Refusal.{Refusal as ActionRefusal}
+use Rattle.reader.specs.declared.Refusal.{Refusal as MessageRefusal}
+use Rattle.step.specs.declared.Refusal.{Refusal}
+use Rattle.step.specs.declared.Refusal.TheVariants.{Message as of_its_message, Action as of_its_action}
 use Rattle.reader.specs.declared.Message.{Message}
 use Rattle.reader.specs.declared.Message.TheVariants.{UVisPost}
 use Rattle.reader.proofs.MessageTheorems.{spans_within}
@@ -24,8 +28,10 @@ use Rattle.model.proofs.ActionLaws.{ActionFits, action-fits}
 use Rattle.model.proofs.EnumActions.{enum_action, enum_action_lem}
 use Rattle.changes.specs.ChangeResults.{changed, change_result}
 use Rattle.queries.specs.QueryResults.{replied, query_result}
-use Rattle.step.specs.ActionResults.{ActionResult, acted, action_result}
-use Rattle.queries.specs.declared.Reply.{Reply}
+use Rattle.step.specs.ActionResults.{ActionResult, performed, acted, action_result}
+use Rattle.std.specs.Prelude.{Result, Ok, Err, IsErrAnd}
+use Rattle.std.specs.Result.{result_unwrap_or}
+use Rattle.std.proofs.lemmas.Result.{err_from_is_err_and}
 
 -- the message is the case m of the enum
 pub record Decoded (msg : List ℕ) (m : Message) : Type 0 where
@@ -41,24 +47,40 @@ module _ (b o : List ℕ) {msg : List ℕ} {m : Message} (d : Decoded msg m) whe
   of_message : {a : Action} {x : ActionResult} → enum_action (body_of msg) m ≡ a → x ≡ action_result b a o → x ≡ action_result b (action_of msg) o
   of_message f g = g ∙ sym (ap (λ (a : Action). action_result b a o) (enum_action_lem msg m d.content ∙ f))
 
-  pub change-acted : {r : Reply} {c : Change} {number : ℕ} {after : List ℕ} → enum_action (body_of msg) m ≡ change c
-      → changed number after ≡ change_result b c → (r.number ≡ number) × (r.len ≡ 0) → acted r after o ≡ action_result b (action_of msg) o
-  unfolding action_result
-  change-acted {r = r} f h g =
-      of_message f (λ i. record {
-        reply = record { number = (g.0 ∙ ap (λ x. x.number) h) i; body = bytes_written (g.1 i) o };
-        board = ap (λ x. x.board) h i;
-      })
+  -- r' is what the arm of the message gave, b' and o' what it left
+  module _ {r r' : Result ℕ ActionRefusal} (returned : r' ≡ r) {b' o' after : List ℕ} where
+    pub change-done : {A : Type 0} {c : Change} (x : Result A ActionRefusal) → enum_action (body_of msg) m ≡ change c
+        → changed x after ≡ change_result b c → (result_number r ≡ result_number x) × (result_unwrap_or r 0 ≡ 0) → b' ≡ after → o' ≡ o
+        → performed r' b' o' ≡ action_result b (action_of msg) o
+    unfolding action_result
+    change-done x f h g e q =
+        ap (λ (x : Result ℕ ActionRefusal). performed x b' o') returned
+        ∙ of_message f (λ i. record {
+          reply = record { number = (g.0 ∙ ap (λ y. y.number) h) i; body = bytes_written (g.1 i) (q i) };
+          board = (e ∙ ap (λ y. y.board) h) i;
+        })
 
-  pub query-acted : {r : Reply} {q : Query} {after : List ℕ} → enum_action (body_of msg) m ≡ query q → replied r after ≡ query_result b q o
-      → acted r b after ≡ action_result b (action_of msg) o
-  unfolding action_result
-  query-acted f h = of_message f (λ i. record { reply = h i; board = b })
+    pub query-done : {q : Query} → enum_action (body_of msg) m ≡ query q → replied r after ≡ query_result b q o → b' ≡ b → o' ≡ after
+        → performed r' b' o' ≡ action_result b (action_of msg) o
+    unfolding action_result
+    query-done f h e q =
+        (λ i. performed (returned i) (e i) (q i)) ∙ of_message f (λ i. record { reply = h i; board = b })
 
-  pub refusal-acted : {r : Reply} {refusal : Refusal} {number : ℕ} → enum_action (body_of msg) m ≡ refused refusal → number ≡ refusal_number refusal
-      → (r.number ≡ number) × (r.len ≡ 0) → acted r b o ≡ action_result b (action_of msg) o
+  pub refusal-acted : {refusal : MessageRefusal} {given : Refusal} → enum_action (body_of msg) m ≡ refused refusal → given ≡ of_its_message refusal
+      → acted (Err given) b o ≡ action_result b (action_of msg) o
   unfolding action_result
-  refusal-acted {r = r} f h g = of_message f (λ i. record { reply = record { number = (g.0 ∙ h) i; body = bytes_written (g.1 i) o }; board = b })
+  refusal-acted f g = ap (λ (x : Refusal). acted (Err x) b o) g ∙ of_message f refl
+
+-- ---- what `act` returns of it
+
+module _ {x : ActionResult} {done : Result ℕ ActionRefusal} {b o : List ℕ} (e : performed done b o ≡ x) where
+  pub done-acted : {n : ℕ} → done ≡ Ok n → acted (Ok n) b o ≡ x
+  done-acted f = ap (λ (r : Result ℕ ActionRefusal). performed r b o) (sym f) ∙ e
+
+  pub refused-acted : (r : Result ℕ Refusal) (refusal : ActionRefusal) → IsErrAnd r (λ y. y ≡ of_its_action refusal) → done ≡ Err refusal → acted r b o ≡ x
+  refused-acted r refusal h f =
+      let p = err_from_is_err_and r h in
+      rw (p.1, p.2) (ap (λ (r : Result ℕ ActionRefusal). performed r b o) (sym f) ∙ e)
 
 -- ---- the fields of a message
 

@@ -1,23 +1,28 @@
 // The step: one message on a board.
 #![tactic(auto)]
 
-ghost use Rattle.std.specs.Prelude.{◌≡◌, true, ◌+◌, ◌≤◌, length};
+ghost use Rattle.std.specs.Prelude.{◌≡◌, true, ◌+◌, ◌≤◌, length, Err};
 ghost use Rattle.layout.specs.Bytes.{bytes_at};
-ghost use Rattle.reader.specs.Messages.{refusal_number};
 ghost use Rattle.model.specs.Actions.{action_of};
 ghost use Rattle.model.specs.Soundness.{is_sound};
 ghost use Rattle.model.specs.Step.{answer_limit, step_of};
 ghost use Rattle.model.proofs.SoundnessTheorems.{SoundState};
 ghost use Rattle.step.specs.ActionResults.{acted, action_result};
-ghost use Rattle.step.specs.Results.{stepped};
+ghost use Rattle.step.specs.Results.{refusal_number, outcome_number, stepped};
+ghost use Rattle.step.specs.declared.Refusal.TheVariants.{Message, Action};
+ghost use Rattle.access.specs.Refusals.{result_number};
+ghost use Rattle.std.specs.Result.{result_unwrap_or};
 
+use access::refusals;
+use access::sound_board::SoundBoard;
 use board::sound;
 use changes::creations::{
     accept_request, create_post, register_user, request_friend, request_registration, start_system,
 };
 use changes::deletions::end_friendship;
 use changes::updates::{update_picture, update_text, update_title, update_user, update_visibility};
-use layout::number::write_u16;
+use layout::number::write_number;
+use queries::HEAD_SIZE;
 use queries::listings::{
     list_friends, list_friends_of, list_pending, list_posts, list_requests, list_users,
 };
@@ -25,48 +30,95 @@ use queries::readings::{
     read_admin, read_owner, read_pending, read_picture, read_request_from, read_request_to,
     read_text, read_title, read_user, read_visibility,
 };
-use queries::{HEAD_SIZE, Reply, without_body};
 use reader::frame::body;
-use reader::{Message, Refusal, Span, decode};
+use reader::{Message, Span, decode};
 
 // The largest answer.
 pub const ANSWER_LIMIT: usize = 518;
 
-// The number that is returned, 0 for accepted, and the bytes written.
+// Why a message is refused: the row of the table of refusals that applies.
+#[derive(Clone, Copy, PartialEq, Eq, Debug)]
+pub enum Refusal {
+    BoardUnsound,
+    BufferShort,
+    Message(reader::Refusal),
+    Action(refusals::Refusal),
+}
+
+impl From<reader::Refusal> for Refusal {
+    ghost from_gives = { λ refusal given. given ≡ Message refusal };
+
+    fn from(refusal: reader::Refusal) -> Refusal {
+        Refusal::Message(refusal)
+    }
+}
+
+impl From<refusals::Refusal> for Refusal {
+    ghost from_gives = { λ refusal given. given ≡ Action refusal };
+
+    fn from(refusal: refusals::Refusal) -> Refusal {
+        Refusal::Action(refusal)
+    }
+}
+
+impl From<Refusal> for u16 {
+    ghost from_gives = { λ refusal number. number ≡ refusal_number refusal };
+
+    fn from(refusal: Refusal) -> u16 {
+        match refusal {
+            Refusal::BoardUnsound => 1,
+            Refusal::BufferShort => 2,
+            Refusal::Message(refusal) => u16::from(refusal),
+            Refusal::Action(refusal) => u16::from(refusal),
+        }
+    }
+}
+
+// What a message came to, and the bytes of its answer: a refusal of the message or of its action is answered too.
 #[derive(Clone, Copy)]
 pub struct Answer {
-    pub number: u16,
+    pub outcome: Result<(), Refusal>,
     pub written: usize,
 }
 
-fn refusal_number(refusal: Refusal) -> u16
-    ensures { result ≡ refusal_number refusal }
-{
-    match refusal {
-        Refusal::Frame => 3,
-        Refusal::Kind => 4,
-        Refusal::Body => 5,
+impl Answer {
+    // The number that is returned, 0 for accepted.
+    pub fn number(self) -> u16
+        ensures { result ≡ outcome_number self.outcome }
+    {
+        match self.outcome {
+            Ok(()) => 0,
+            Err(refusal) => u16::from(refusal),
+        }
     }
 }
 
 // The string that a span of the body names.
+#[tactic(auto, unfolding(layout::specs::Bytes::bytes_at))]
 fn span_bytes(body: &[u8], span: Span) -> &[u8]
     requires { span.start + span.len ≤ length body.now }
     ensures { result.now ≡ bytes_at body.now span.start span.len }
 {
-    let start = span.start;
-    let len = span.len;
-    &body[start..start + len]
+    &body[span.start..span.start + span.len]
 }
 
-// The action of a message: its refusals, its change, the body of its answer.
-fn act(msg: &[u8], board: &mut [u8], out: &mut [u8]) -> Reply
+// "no body for changes"
+fn without_body(changed: Result<(), refusals::Refusal>) -> Result<usize, refusals::Refusal>
+    ensures { (result_number result ≡ result_number changed) × (result_unwrap_or result 0 ≡ 0) }
+{
+    changed?;
+    Ok(0)
+}
+
+// The action of a message: its refusals, its change, the length of the body of its answer.
+fn act(msg: &[u8], board: &mut [u8], out: &mut [u8]) -> Result<usize, Refusal>
     requires { SoundState board.old × (answer_limit ≤ length out.old) }
     ensures { acted result board.new out.new ≡ action_result board.old (action_of msg.now) out.old }
 {
     let message = decode(msg);
     let body = body(msg);
-    match message {
+    let sound = SoundBoard { bytes: board };
+    let done = match message {
         Message::StartSys(login) => without_body(start_system(board, login)),
         Message::CNUReq(u, note) => without_body(request_registration(
             board,
@@ -117,39 +169,53 @@ fn act(msg: &[u8], board: &mut [u8], out: &mut [u8]) -> Reply
         Message::UVisPost(login, n, visibility) => without_body(update_visibility(
             board, login, n, visibility,
         )),
-        Message::RUser(login, v) => read_user(board, login, v, out),
-        Message::RNUReq(login, v) => read_pending(board, login, v, out),
-        Message::RAmIAdmin(login) => read_admin(board, login, out),
-        Message::RTitlePost(login, n) => read_title(board, login, n, out),
-        Message::RTextPost(login, n) => read_text(board, login, n, out),
-        Message::RImgPost(login, n) => read_picture(board, login, n, out),
-        Message::RVisPost(login, n) => read_visibility(board, login, n, out),
-        Message::ROwnerPost(login, n) => read_owner(board, login, n, out),
-        Message::RFriendReqToMe(login, v) => read_request_to(board, login, v, out),
-        Message::RFriendReqFromMe(login, v) => read_request_from(board, login, v, out),
-        Message::LPendingUReqs(login) => list_pending(board, login, out),
-        Message::LAllUsers(login) => list_users(board, login, out),
-        Message::LAllPosts(login) => list_posts(board, login, out),
-        Message::LFriendReqs(login) => list_requests(board, login, out),
-        Message::LFriends(login) => list_friends(board, login, out),
-        Message::LFriendsOf(login, v) => list_friends_of(board, login, v, out),
-        Message::Refused(refusal) => without_body(refusal_number(refusal)),
-    }
+        Message::RUser(login, v) => read_user(&sound, login, v, out),
+        Message::RNUReq(login, v) => read_pending(&sound, login, v, out),
+        Message::RAmIAdmin(login) => read_admin(&sound, login, out),
+        Message::RTitlePost(login, n) => read_title(&sound, login, n, out),
+        Message::RTextPost(login, n) => read_text(&sound, login, n, out),
+        Message::RImgPost(login, n) => read_picture(&sound, login, n, out),
+        Message::RVisPost(login, n) => read_visibility(&sound, login, n, out),
+        Message::ROwnerPost(login, n) => read_owner(&sound, login, n, out),
+        Message::RFriendReqToMe(login, v) => read_request_to(&sound, login, v, out),
+        Message::RFriendReqFromMe(login, v) => read_request_from(&sound, login, v, out),
+        Message::LPendingUReqs(login) => list_pending(&sound, login, out),
+        Message::LAllUsers(login) => list_users(&sound, login, out),
+        Message::LAllPosts(login) => list_posts(&sound, login, out),
+        Message::LFriendReqs(login) => list_requests(&sound, login, out),
+        Message::LFriends(login) => list_friends(&sound, login, out),
+        Message::LFriendsOf(login, v) => list_friends_of(&sound, login, v, out),
+        Message::Refused(refusal) => return Err(Refusal::from(refusal)),
+    };
+    Ok(done?)
 }
 
-// One message on a board that is known to be sound, with room for the answer: the board is not tested.
+// One message on a board that is known to be sound, with room for the answer: the board is not tested. That it is sound is a clause, as in `changes`,
+// here and in the replay: it is lent to be written.
 pub fn step_sound(msg: &[u8], board: &mut [u8], out: &mut [u8]) -> Answer
     requires { (is_sound board.old ≡ true) × (answer_limit ≤ length out.old) }
     ensures { stepped result board.new out.new ≡ step_of msg.now board.old out.old }
 {
-    let reply = act(msg, board, out);
-    let number = reply.number;
-    let len = reply.len;
-    write_u16(out, 0, (2 + len) as u16);
-    write_u16(out, 2, number);
-    Answer {
-        number,
+    let (outcome, len) = match act(msg, board, out) {
+        Ok(len) => (Ok(()), len),
+        Err(refusal) => (Err(refusal), 0),
+    };
+    let answer = Answer {
+        outcome,
         written: HEAD_SIZE + len,
+    };
+    write_number(out, 0, 2, (2 + len) as u64);
+    write_number(out, 2, 2, answer.number() as u64);
+    answer
+}
+
+// "If nothing is written the count is 0."
+fn unanswered(refusal: Refusal) -> Answer
+    ensures { result ≡ record { outcome = Err refusal; written = 0 } }
+{
+    Answer {
+        outcome: Err(refusal),
+        written: 0,
     }
 }
 
@@ -158,16 +224,10 @@ pub fn step(msg: &[u8], board: &mut [u8], out: &mut [u8]) -> Answer
     ensures { stepped result board.new out.new ≡ step_of msg.now board.old out.old }
 {
     if !sound(board) {
-        return Answer {
-            number: 1,
-            written: 0,
-        };
+        return unanswered(Refusal::BoardUnsound);
     }
     if out.len() < ANSWER_LIMIT {
-        return Answer {
-            number: 2,
-            written: 0,
-        };
+        return unanswered(Refusal::BufferShort);
     }
     step_sound(msg, board, out)
 }

@@ -1,23 +1,24 @@
--- The lines of answers: their lengths, and how they are written, byte by byte and answer by answer.
-use Prim.Native.Nat.{ℕ, zero, suc, ◌+◌, ◌-◌, ◌*◌, ◌≤◌, ◌<◌}
+-- The lines of answers: their lengths, and how they are written, answer by answer.
+use Prim.Native.Nat.{ℕ, zero, suc, ◌+◌, ◌-◌, ◌*◌, ◌/◌, ◌%◌, ◌≤◌, ◌<◌}
 use native.Mathlib.Omega.{arith}
-use native.Mathlib.Numerals.{add-one}
 use mathlib.Core.Path.{◌≡◌, refl, sym, ap, ap₂, ◌∙◌}
-use mathlib.Core.List.{List, [], ◌∷◌, ◌++◌, map, flatten, map-append, append-nil}
+use mathlib.Core.List.{List, [], ◌∷◌, ◌++◌, map, flatten}
 use lib.ListN.{length, take, drop, get_or, length-append, length-drop}
-use lib.Seq.{take-suc, take_all, drop-drop, length-take-le}
+use lib.Seq.{length-take-le}
 use lib.Dec.{eqb}
 use borrow.Author.Tests.{eq-eqb, ne_eqb, eqb-true, eqb-false}
 use borrow.Table.Steps.{cases}
-use Rattle.layout.specs.Bytes.{patch, write_at, bytes_written, put_bytes}
-use Rattle.layout.proofs.ByteLaws.{patch_nil}
-use Rattle.layout.proofs.ConcatenationLaws.{flatten_append}
-use Rattle.layout.proofs.WrittenLaws.{bytes-put, bytes-put-within, put_count, put-buffer, put-length, put_nothing, put-behind}
 use Rattle.reader.proofs.FrameLaws.{frame_at, inside_up_to}
-use Rattle.report.specs.Report.{line_feed}
+use Rattle.report.specs.Report.{digit_character, line_feed}
 use Rattle.report.specs.MessageLines.{answer_length}
 use Rattle.report.specs.Results.{written_size, reported}
-use Rattle.report.specs.declared.Report.{Report}
+use Rattle.report.specs.declared.TooShort.{TooShort}
+use Rattle.report.specs.declared.text.TextWriter.{TextWriter}
+use Rattle.report.specs.Texts.{HasRoom, Writes}
+use Rattle.report.proofs.TextLaws.{Writes-nothing, Writes-append}
+use Rattle.report.proofs.LineLaws.{digits-written as byte_digits-written}
+use Rattle.hex.specs.Hex.{encode_with, encode_lower}
+use Rattle.std.specs.Prelude.{Result}
 use Rattle.report.proofs.ReportLaws.{written-inside}
 use Rattle.transcript.specs.AnswerLines.{byte_digits, answer_line, answer_lines_in, answers_result}
 
@@ -32,47 +33,17 @@ unfolding byte_digits flatten
 length_digits [] = refl
 length_digits (x ∷ xs) = let l = length_digits xs in omega arith
 
--- one byte more
-digits_more : (xs : List ℕ) (i : ℕ) → i < length xs → digits_of (take (i + 1) xs) ≡ digits_of (take i xs) ++ byte_digits (get_or xs i 0)
-unfolding flatten
-digits_more xs i h =
-    ap (λ (k : ℕ). digits_of (take k xs)) (add-one i)
-    ∙ ap digits_of (take-suc xs i 0 h)
-    ∙ ap flatten (map-append byte_digits (take i xs) (get_or xs i 0 ∷ []))
-    ∙ flatten_append (map byte_digits (take i xs)) (byte_digits (get_or xs i 0) ∷ [])
-    ∙ ap (λ (x : List ℕ). digits_of (take i xs) ++ x) (append-nil (byte_digits (get_or xs i 0)))
+-- they are the library's hexadecimal text
+pub digits-written : (xs : List ℕ) → ((i : ℕ) → get_or xs i 0 < 256) → encode_lower xs ≡ digits_of xs
+unfolding byte_digits flatten encode_with
+digits-written [] h = refl
+digits-written (x ∷ xs) h =
+    byte_digits-written x xs (h 0)
+    ∙ ap (λ (y : List ℕ). digit_character (x / 16) ∷ digit_character (x % 16) ∷ y) (digits-written xs (λ i. h (suc i)))
 
 pub length-line : (xs : List ℕ) → length (answer_line xs) ≡ 2 * length xs + 1
 unfolding answer_line
 length-line xs = let l = length-append (digits_of xs) line_feed in let d = length_digits xs in omega arith
-
--- what `write_answer` has written: nothing at first, then the digits of one byte more, and at last the line feed
-pub no_digits : (t : List ℕ) (at : ℕ) (xs : List ℕ) → bytes_written 0 t ≡ put_bytes t at (digits_of (take 0 xs))
-unfolding flatten
-no_digits t at xs = sym (put_nothing t at)
-
-module _ (t : List ℕ) (at : ℕ) (xs : List ℕ) (room : at + (2 * length xs + 1) ≤ length t) where
-  pub byte_written : (i : ℕ) {t₁ t₂ : List ℕ} → i < length xs → length t₁ ≡ length t → bytes_written (2 * i) t₁ ≡ put_bytes t at (digits_of (take i xs))
-      → t₂ ≡ write_at t₁ (at + 2 * i) (byte_digits (get_or xs i 0)) → bytes_written (2 * (i + 1)) t₂ ≡ put_bytes t at (digits_of (take (i + 1) xs))
-  unfolding byte_digits
-  byte_written i {t₁} {t₂} h kept e f =
-      let b : List ℕ = byte_digits (get_or xs i 0) in
-      let d = length_digits (take i xs) in
-      let l = length-take-le i xs (omega arith) in
-      let two : 2 * (i + 1) ≡ 2 * i + 2 = omega arith in
-      ap (λ (n : ℕ). bytes_written n t₂) two
-      ∙ put-behind t at (digits_of (take i xs)) b (omega arith) e refl (bytes-put-within t₁ (at + 2 * i) b refl (omega arith) f)
-      ∙ ap (put_bytes t at) (sym (digits_more xs i h))
-
-  pub line-written : (i : ℕ) {t₁ t₂ : List ℕ} → i ≡ length xs → length t₁ ≡ length t → bytes_written (2 * i) t₁ ≡ put_bytes t at (digits_of (take i xs))
-      → t₂ ≡ write_at t₁ (at + 2 * length xs) line_feed → bytes_written (2 * length xs + 1) t₂ ≡ put_bytes t at (answer_line xs)
-  unfolding answer_line
-  line-written i {t₁} h kept e f =
-      let d = length_digits xs in
-      let all : bytes_written (2 * length xs) t₁ ≡ put_bytes t at (digits_of xs) =
-      ap (λ (k : ℕ). bytes_written (2 * k) t₁) (sym h) ∙ e ∙ ap (λ (x : List ℕ). put_bytes t at (digits_of x)) (take_all i xs (omega arith))
-      in
-      put-behind t at (digits_of xs) line_feed (omega arith) all refl (bytes-put-within t₁ (at + 2 * length xs) line_feed refl (omega arith) f)
 
 -- ---- answers
 
@@ -120,93 +91,48 @@ lines_short (suc count) a =
 
 -- ---- what `write_answers` has written
 
--- the text with the lines that are left written behind those that are there is the whole one
-pub record LinesLeft (t a : List ℕ) (count : ℕ) (t₁ : List ℕ) (left start at : ℕ) : Type 0 where
-  pub whole : bytes_written (at + length (answer_lines_in left (drop start a))) (patch t₁ at (answer_lines_in left (drop start a)))
-      ≡ put_bytes t 0 (answer_lines_in count a)
-  pub kept : length t₁ ≡ length t
-  pub inside : start ≤ length a
-  pub short : at ≤ 3 * start
+-- where the lines that are left are written next, the text is the whole one
+pub record LinesLeft (start : TextWriter) (a : List ℕ) (count : ℕ) (w : TextWriter) (left : ℕ) (rest : List ℕ) : Type 0 where
+  pub whole : (w₁ : TextWriter) → Writes w (answer_lines_in left rest) w₁ → Writes start (answer_lines_in count a) w₁
+  pub room : HasRoom w (3 * length rest)
 
-module _ (t a : List ℕ) (count : ℕ) (room : 3 * length a ≤ length t) where
-  pub all_left : LinesLeft t a count t count 0 0
-  all_left = record { whole = bytes-put t 0 (answer_lines_in count a) (omega arith) refl; kept = refl; inside = omega arith; short = omega arith }
+module _ {start : TextWriter} {a : List ℕ} {count : ℕ} {w : TextWriter} {left : ℕ} {rest : List ℕ} (lines : LinesLeft start a count w left rest) where
+  pub none_left : left ≡ 0 → Writes start (answer_lines_in count a) w
+  none_left e = lines.whole w (rw (lines_none left rest e) (Writes-nothing w))
 
-  module _ {t₁ : List ℕ} {left start at : ℕ} (lines : LinesLeft t a count t₁ left start at) where
-    -- the answer that stands next, and the bytes behind it
-    abbrev rest : List ℕ
-    rest = drop start a
+  module _ {size : ℕ} (found : size ≡ answer_length rest) where
+    pub no_answer : size ≡ 0 → Writes start (answer_lines_in count a) w
+    no_answer e = lines.whole w (rw (lines_no_answer left rest (sym found ∙ e)) (Writes-nothing w))
 
-    abbrev size : ℕ
-    size = answer_length rest
+    pub size-inside : size ≤ length rest
+    size-inside = omega (arith, found, inside_up_to 516 rest)
 
-    none_more : answer_lines_in left rest ≡ [] → bytes_written at t₁ ≡ put_bytes t 0 (answer_lines_in count a)
-    none_more e =
-        let zero_more : at ≡ at + 0 = omega arith in
-        ap₂ bytes_written zero_more (sym (patch_nil t₁ at))
-        ∙ ap (λ (x : List ℕ). bytes_written (at + length x) (patch t₁ at x)) (sym e)
-        ∙ lines.whole
+    module _ (n : size ≡ 0 → ⊥) where
+      -- there is room for the line of the answer that stands next
+      pub room-next : HasRoom w (2 * length (take size rest) + 1)
+      room-next =
+          let f = frame_at rest (λ z. n (found ∙ z)) in
+          omega (arith, found, f.stated, f.least, size-inside, length-take-le size rest size-inside, lines.room)
 
-    pub none_left : left ≡ 0 → bytes_written at t₁ ≡ put_bytes t 0 (answer_lines_in count a)
-    none_left e = none_more (lines_none left rest e)
-
-    pub no_answer : size ≡ 0 → bytes_written at t₁ ≡ put_bytes t 0 (answer_lines_in count a)
-    no_answer e = none_more (lines_no_answer left rest e)
-
-    -- an answer lies within the others, and there is room for its line
-    pub record Fits : Type 0 where
-      pub least : 4 ≤ size
-      pub inside : start + size ≤ length a
-      pub line : at + (2 * size + 1) ≤ length t₁
-
-    pub answer-fits : (size ≡ 0 → ⊥) → Fits
-    answer-fits n =
-        let w = frame_at rest n in
-        let s = w.stated in
-        let i = inside_up_to 516 rest in
-        let l = length-drop start a in
-        let k = lines.kept in
-        let b = lines.short in
-        record { least = omega (arith, w.least); inside = omega (arith, lines.inside); line = omega (arith, w.least, lines.inside) }
-
-    pub next-written : {n : ℕ} {t₂ : List ℕ} → (left ≡ 0 → ⊥) → (size ≡ 0 → ⊥)
-        → bytes_written n t₂ ≡ put_bytes t₁ at (answer_line (take size rest)) → LinesLeft t a count t₂ (left - 1) (start + size) (at + n)
-    next-written {n} {t₂} c z e =
-        let fits = answer-fits z in
-        let least = fits.least in
-        let inside = fits.inside in
-        let line : List ℕ = answer_line (take size rest) in
-        let more : List ℕ = answer_lines_in (left - 1) (drop size rest) in
-        let behind : drop size rest ≡ drop (start + size) a = drop-drop size start a in
-        let dropped = length-drop start a in
-        let taken = length-take-le size rest (omega arith) in
-        let l = length-line (take size rest) in
-        let m = lines_short (left - 1) (drop size rest) in
-        let d = length-drop size rest in
-        let counted = put_count t₁ at line e in
-        let k = lines.kept in
-        let b = lines.short in
-        let both : bytes_written (n + length more) (patch t₂ (at + n) more) ≡ put_bytes t₁ at (line ++ more) =
-        put-behind t₁ at line more (omega arith) e refl (bytes-put t₂ (at + n) more refl refl)
-        in
-        let same : bytes_written (at + n + length more) (patch t₂ (at + n) more) ≡ put_bytes t 0 (answer_lines_in count a) =
-        let joined = put_count t₁ at (line ++ more) both in
-        let total : at + n + length more ≡ at + length (line ++ more) = omega arith in
-        ap₂ bytes_written total (put-buffer t₁ at (line ++ more) both)
-        ∙ ap (λ (x : List ℕ). bytes_written (at + length x) (patch t₁ at x)) (sym (lines_next left rest c z))
-        ∙ lines.whole
-        in
-        record {
-          whole =
-              ap (λ (x : List ℕ). bytes_written (at + n + length (answer_lines_in (left - 1) x)) (patch t₂ (at + n) (answer_lines_in (left - 1) x)))
-              (sym behind)
-              ∙ same;
-          kept = put-length t₁ at line (omega arith) e ∙ k;
-          inside = inside;
-          short = omega arith;
-        }
+      pub next-written : {w₁ : TextWriter} {left₁ : ℕ} {rest₁ : List ℕ} → left ≡ left₁ + 1 → rest₁ ≡ drop size rest
+          → Writes w (answer_line (take size rest)) w₁ → LinesLeft start a count w₁ left₁ rest₁
+      next-written {w₁} {left₁} {rest₁} c r e =
+          let f = frame_at rest (λ z. n (found ∙ z)) in
+          let l = length-line (take size rest) in
+          let k = length-take-le size rest size-inside in
+          let d = ap length r ∙ length-drop size rest in
+          let m = lines_short left₁ rest₁ in
+          let next : answer_line (take size rest) ++ answer_lines_in left₁ rest₁ ≡ answer_lines_in left rest =
+          ap₂ (λ (x y : List ℕ). answer_line x ++ y) (ap (λ (i : ℕ). take i rest) found)
+          (ap₂ answer_lines_in (omega (arith, c)) (r ∙ ap (λ (i : ℕ). drop i rest) found))
+          ∙ sym (lines_next left rest (λ z. omega (arith, c, z)) (λ z. n (found ∙ z)))
+          in
+          record {
+            whole = λ w₂ later. lines.whole w₂ (rw (← next) (Writes-append e later (omega (arith, found, f.stated, f.least, l, k, d, m, lines.room))));
+            room = omega (arith, found, f.stated, f.least, l, k, d, e.size, e.kept, lines.room);
+          }
 
 -- what `answer_lines` has written lies within the text buffer
-pub lines_inside : (count : ℕ) (a t : List ℕ) (r : Report) {t' : List ℕ} → reported r t' ≡ answers_result count a t → written_size r ≤ length t'
+pub lines_inside : (count : ℕ) (a t : List ℕ) (r : Result ℕ TooShort) {t' : List ℕ} → reported r t' ≡ answers_result count a t → written_size r ≤ length t'
 unfolding answers_result
 lines_inside count a t = written-inside (3 * length a) (answer_lines_in count a) t (lines_short count a)

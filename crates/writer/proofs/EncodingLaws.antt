@@ -1,23 +1,38 @@
 -- The writer by the two tests that decide its number: whether the fields of the kind can hold the values (`is_held`), and whether there is room.
 use Prim.Native.Nat.{ℕ, ◌+◌, ◌≤◌, ◌<◌}
 use native.Mathlib.Omega.{arith}
-use mathlib.Core.Path.{◌≡◌, refl, ap}
+use mathlib.Core.Path.{◌≡◌, refl, ap, ◌∙◌}
 use mathlib.Core.List.{List}
 use mathlib.Core.Bool.{Bool, true, false, false≢true}
-use mathlib.Core.Option.{Option, some, none}
+use mathlib.Core.Option.{Option as Maybe, some, none}
 use lib.ListN.{length, drop}
 use lib.Seq.{take_at}
 use lib.Dec.{leb}
 use borrow.Table.Steps.{cases}
 use borrow.Author.Tests.{le-leb, lt-leb, leb-true, leb-false}
+use Rattle.std.specs.Prelude.{Option, None, Result, Ok, Err}
+use Rattle.std.specs.Option.{ok_or}
+use Rattle.std.specs.Result.{IsErrAnd}
 use Rattle.layout.specs.Bytes.{patch}
 use Rattle.layout.proofs.BooleanLaws.{refuted}
 use Rattle.reader.specs.Frames.{frame_bytes}
 use Rattle.reader.specs.Fields.{FieldType, FieldValue, values_fit, values_bytes}
 use Rattle.reader.specs.Kinds.{kind_fields}
 use Rattle.reader.specs.Messages.{Content}
-use Rattle.writer.specs.Encoding.{WriteResult, result, put_whole, encode_fields, encode_of}
+use Rattle.writer.specs.Encoding.{WriteResult, result, refusal_number, outcome, put_whole, encode_fields, encode_of}
+use Rattle.writer.specs.declared.Refusal.{Refusal}
 use Rattle.writer.specs.RoundTrips.{frame_in}
+
+-- ---- what a call returns: an `Err` has the number of its refusal, and nothing is written
+
+pub refused-outcome : (r : Result ℕ Refusal) (b : List ℕ) (x y : Refusal) → IsErrAnd r (λ (z : Refusal). z ≡ x) → x ≡ y
+    → outcome r b ≡ result (refusal_number y) 0 b
+refused-outcome (Ok n) b x y h e = absurd h
+refused-outcome (Err z) b x y h e = ap (λ (w : Refusal). result (refusal_number w) 0 b) (h ∙ e)
+
+-- the error that stands for a missing value
+pub error_given : {A E : Type 0} (o : Option A) {x y : E} → Err x ≡ ok_or o y → o ≡ None → x ≡ y
+error_given o e n = let q = rw n at e in cc
 
 -- ---- whether there is room
 
@@ -52,7 +67,7 @@ module _ (x b : List ℕ) where
 
 -- ---- whether the fields of the kind can hold the values
 
-unfoldable pub holds : Option (List FieldType) → List FieldValue → Bool
+unfoldable pub holds : Maybe (List FieldType) → List FieldValue → Bool
 holds none vs = false
 holds (some fs) vs = values_fit fs vs
 
@@ -68,7 +83,7 @@ pub held : (c : Content) → is_held c ≡ true → Held c
 unfolding holds
 held c t = by_fields (kind_fields c.code) refl t
   where
-    by_fields : (o : Option (List FieldType)) → kind_fields c.code ≡ o → holds o c.values ≡ true → Held c
+    by_fields : (o : Maybe (List FieldType)) → kind_fields c.code ≡ o → holds o c.values ≡ true → Held c
     by_fields none known fit = absurd (false≢true fit)
     by_fields (some fs) known fit = record { fields = fs; known = known; fit = fit }
 
@@ -87,7 +102,7 @@ pub not_held-encoded : (c : Content) (b : List ℕ) → is_held c ≡ false → 
 unfolding encode_of encode_fields holds
 not_held-encoded c b t = by_fields (kind_fields c.code) t
   where
-    by_fields : (o : Option (List FieldType)) → holds o c.values ≡ false → encode_fields c.code o c.values b ≡ result 5 0 b
+    by_fields : (o : Maybe (List FieldType)) → holds o c.values ≡ false → encode_fields c.code o c.values b ≡ result 5 0 b
     by_fields none t = refl
     by_fields (some fs) t = rw t
 

@@ -1,12 +1,13 @@
 -- The frame of a message, and what the writer returns and leaves in its buffer: document 02, change 1.
-use Rattle.std.specs.Prelude.{ℕ, List, cond, length, leb}
+use Rattle.std.specs.Prelude.{ℕ, List, cond, length, leb, Result, Ok, Err}
 use Rattle.std.proofs.Math.Option.{Option, some, none}
 use Rattle.layout.specs.Bytes.{patch}
 use Rattle.reader.specs.Frames.{frame_bytes}
 use Rattle.reader.specs.Fields.{FieldType, FieldValue, values_fit, values_bytes}
 use Rattle.reader.specs.Kinds.{kind_fields}
-use Rattle.reader.specs.Messages.{Content}
-use Rattle.writer.specs.declared.Outcome.{Outcome}
+use Rattle.reader.specs.Messages.{Content, refusal_number as read_refusal_number}
+use Rattle.writer.specs.declared.Refusal.{Refusal}
+use Rattle.writer.specs.declared.Refusal.TheVariants.{NotCarried, NotRead, BufferShort}
 
 -- the number that is returned, how much was written, and the buffer
 pub record WriteResult : Type 0 where
@@ -17,8 +18,27 @@ pub record WriteResult : Type 0 where
 abbrev pub result : ℕ → ℕ → List ℕ → WriteResult
 result number written b = record { number = number; written = written; buffer = b }
 
-abbrev pub outcome : Outcome → List ℕ → WriteResult
-outcome r b = result r.number r.written b
+-- the numbers of refusals; what is read is refused with the number that the reader has for it
+abbrev pub refusal_number : Refusal → ℕ
+refusal_number NotCarried = 5
+refusal_number (NotRead r) = read_refusal_number r
+refusal_number BufferShort = 13
+
+-- two refusals have the number 5: writing gives the first of them alone, reading the second
+abbrev pub IsOfWriting : Refusal → Type 0
+IsOfWriting NotCarried = Unit
+IsOfWriting (NotRead r) = ⊥
+IsOfWriting BufferShort = Unit
+
+abbrev pub IsOfReading : Refusal → Type 0
+IsOfReading NotCarried = ⊥
+IsOfReading (NotRead r) = Unit
+IsOfReading BufferShort = Unit
+
+-- what a call returns and leaves
+abbrev pub outcome : Result ℕ Refusal → List ℕ → WriteResult
+outcome (Ok written) b = result 0 written b
+outcome (Err r) b = result (refusal_number r) 0 b
 
 -- "13 after it when the buffer is shorter than the frame. Both write nothing; else it returns 0 and the length, and bytes behind the frame stay"; the
 -- length is 0 where nothing is written

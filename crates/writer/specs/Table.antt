@@ -1,27 +1,30 @@
 -- For the contracts of inner functions: the lists of fields that kinds have, and what a list of words becomes.
-use Rattle.std.specs.Prelude.{ℕ, ◌+◌, ◌≤◌, ◌≡◌, List, [], ◌∷◌, Bool, true, ◌&&◌, ◌||◌, cond, length, take, get_or, eqb, leb}
+use Rattle.std.specs.Prelude.{ℕ, ◌+◌, ◌≡◌, List, Bool, true, ◌&&◌, ◌||◌, cond, length, get_or, eqb, leb}
 use Rattle.std.proofs.Math.Option.{Option, some, none}
-use Rattle.reader.specs.Fields.{FieldType, uint, string, staff_number, password, request_note, user_name, user_info, fields_fit, field_values, value_fits, values_fit, values_bytes}
+use Rattle.reader.specs.Fields.{FieldType, uint, string, field_end, staff_number, password, picture, visibility, fields_fit, field_values, value_fits, values_fit, values_bytes}
+use Rattle.reader.specs.Kinds.{kind_fields}
 use Rattle.reader.specs.Messages.{enum_content}
 use Rattle.reader.specs.declared.Message.{Message}
 use Rattle.writer.specs.Words.{word_count, word_value, word_values, word_content, values_words}
-use Rattle.writer.specs.declared.message.Values.{Values}
+use Rattle.writer.specs.declared.body.Place.{Place}
 use Rattle.writer.specs.declared.table.Field.{Field}
-use Rattle.writer.specs.declared.table.Field.TheVariants.{Number, String}
-use Rattle.writer.specs.declared.table.Fields.{Fields}
-use Rattle.writer.specs.declared.table.Fields.TheVariants.{Login, Target, TargetAnd, Registration, User, Unknown}
+use Rattle.writer.specs.declared.table.Field.TheVariants.{StaffNumber, Password, Picture, Visibility, Text}
 
 abbrev pub field_type : Field → FieldType
-field_type (Number width least greatest) = uint width least greatest
-field_type (String limit) = string limit
+field_type StaffNumber = staff_number
+field_type Password = password
+field_type Picture = picture
+field_type Visibility = visibility
+field_type (Text limit) = string limit
 
-abbrev pub field_types : Fields → Option (List FieldType)
-field_types Login = some (staff_number ∷ password ∷ [])
-field_types Target = some (staff_number ∷ password ∷ staff_number ∷ [])
-field_types (TargetAnd f) = some (staff_number ∷ password ∷ staff_number ∷ field_type f ∷ [])
-field_types Registration = some (staff_number ∷ request_note ∷ [])
-field_types User = some (staff_number ∷ password ∷ password ∷ user_name ∷ user_info ∷ [])
-field_types Unknown = none
+-- the fields of some kind
+abbrev pub AreOfKind : List FieldType → Type 0
+AreOfKind fs = (kind : ℕ) × (kind_fields kind ≡ some fs)
+
+-- the reader has a function for the number of a field: of one, four or eight bytes (`kind-readable`: so are those of all kinds)
+unfoldable pub is_readable : FieldType → Bool
+is_readable (uint width least greatest) = eqb width 1 || (eqb width 4 || eqb width 8)
+is_readable (string limit) = true
 
 -- whether a field can hold the value of the words that stand first, all of which are there, and how many bytes such a value has
 unfoldable pub words_fit : List ℕ → FieldType → List ℕ → Bool
@@ -48,17 +51,9 @@ unfoldable pub body_word_count : Option (List FieldType) → List ℕ → ℕ
 body_word_count none body = 0
 body_word_count (some fs) body = cond (fields_fit fs body 0) (length (values_words (field_values fs body 0))) 0
 
--- the reader has a function for the number of a field: of one, four or eight bytes
-unfoldable pub is_readable : FieldType → Bool
-is_readable (uint width least greatest) = eqb width 1 || (eqb width 4 || eqb width 8)
-is_readable (string limit) = true
-
--- a message that was taken apart: its kind and its words, which have room
-abbrev pub message_words : Values → List ℕ
-message_words v = take v.count v.words
-
-abbrev pub Holds : Values → ℕ → List ℕ → Type 0
-Holds v kind ws = (v.kind ≡ kind) × (v.count ≤ length v.words) × (message_words v ≡ ws)
+-- behind a field of a body, and its words counted too
+unfoldable pub place_behind : FieldType → List ℕ → Place → Place
+place_behind f body p = record { at = field_end f body p.at; words = p.words + word_count f }
 
 -- a kind and words say a message, whatever bytes its spans lie in
 abbrev pub Says : ℕ → List ℕ → Message → Type 0

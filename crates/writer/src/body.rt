@@ -1,98 +1,148 @@
 // The way back: the words of a body, field by field.
-ghost use Rattle.std.specs.Prelude.{◌≡◌, [], ◌∷◌, true, ◌+◌, ◌≤◌, ◌<◌, length};
+ghost use Rattle.std.specs.Prelude.{◌≡◌, true, ◌+◌, ◌≤◌, ◌<◌, [], ◌∷◌, length, map};
+ghost use Rattle.std.proofs.Math.Option.{some};
+ghost use Rattle.std.specs.Bool.{then_some};
 ghost use Rattle.layout.specs.Bytes.{patch};
-ghost use Rattle.reader.specs.Fields.{field_fits, field_end, field_value, fields_fit, field_values};
-ghost use Rattle.reader.specs.Kinds.{kind_fields};
-ghost use Rattle.writer.specs.Table.{field_type, is_readable, body_word_count};
-ghost use Rattle.writer.specs.Words.{word_count, listed_fields, value_words, values_words};
+ghost use Rattle.reader.specs.Fields.{width_bytes, uint, string, number_in, field_fits, field_value, fields_fit, field_values};
+ghost use Rattle.reader.specs.Frames.{found};
+ghost use Rattle.writer.specs.Table.{AreOfKind, field_type, place_behind, body_word_count};
+ghost use Rattle.writer.specs.Words.{word_count, value_words, values_words};
 
-use crate::table::{Field, field_at, field_count, fields_of};
-use crate::values::word_count;
+use crate::table::Field;
 use layout::number::read_u16;
-use reader::field::{number, number_fits, string_fits};
+use reader::field::{Width, number, number_fits, string_fits};
 
-// Whether a field stands at a place whole, and is what its type allows.
-fn field_fits(field: Field, body: &[u8], at: usize) -> bool
-    requires { is_readable (field_type field) ≡ true }
-    ensures { result ≡ field_fits (field_type field) body.now at }
+// How far a body has been gone over: the place behind the fields, and how many words they have. That the words are fewer than 7 before a field stays a
+// clause: behind the last field they are 7, and as a ghost field what always holds (`words ≤ at`) would split the equation of `place_behind` into its parts.
+#[derive(Clone, Copy)]
+pub struct Place {
+    pub at: usize,
+    pub words: usize,
+}
+
+// Behind a number; none where it does not stand there whole, or is out of its bounds.
+fn behind_number(
+    body: &[u8],
+    place: Place,
+    width: Width,
+    least: u64,
+    greatest: u64,
+) -> Option<Place>
+    requires { place.words < 7 }
+    ensures { result ≡ then_some (field_fits (uint (width_bytes width) least greatest) body.now place.at) (place_behind (uint (width_bytes width) least greatest) body.now place) }
+{
+    let at = place.at;
+    let words = place.words;
+    if !number_fits(body, at, width, least, greatest) {
+        return None;
+    }
+    Some(Place {
+        at: at + width.bytes(),
+        words: words + 1,
+    })
+}
+
+// Behind a string; none where it does not stand there whole, or is over its limit.
+fn behind_string(body: &[u8], place: Place, limit: usize) -> Option<Place>
+    requires { place.words < 7 }
+    ensures { result ≡ then_some (field_fits (string limit) body.now place.at) (place_behind (string limit) body.now place) }
+{
+    let at = place.at;
+    let words = place.words;
+    if !string_fits(body, at, limit) {
+        return None;
+    }
+    Some(Place {
+        at: at + 2 + read_u16(body, at) as usize,
+        words: words + 2,
+    })
+}
+
+// Behind a field; none where it does not stand there whole, or is not what its type allows. Widths and bounds stand in the arms and not in the list of
+// fields, since a message took more instructions to read where they came from there.
+fn behind_field(field: Field, body: &[u8], place: Place) -> Option<Place>
+    requires { place.words < 7 }
+    ensures { result ≡ then_some (field_fits (field_type field) body.now place.at) (place_behind (field_type field) body.now place) }
 {
     match field {
-        Field::Number(width, least, greatest) => number_fits(body, at, width, least, greatest),
-        Field::String(limit) => string_fits(body, at, limit),
+        Field::StaffNumber => behind_number(body, place, Width::Four, 1, 0xffff_ffff),
+        Field::Password => behind_number(body, place, Width::Eight, 0, 0xffff_ffff_ffff_ffff),
+        Field::Picture => behind_number(body, place, Width::Four, 0, 0xffff_ffff),
+        Field::Visibility => behind_number(body, place, Width::One, 0, 1),
+        Field::Text(limit) => behind_string(body, place, limit),
     }
 }
 
-// The place behind a field that fits.
-fn field_end(field: Field, body: &[u8], at: usize) -> usize
-    requires { field_fits (field_type field) body.now at ≡ true }
-    ensures { result ≡ field_end (field_type field) body.now at }
+// How many words a body has; none where it does not fit the fields.
+pub(crate) fn body_word_count(fields: &[Field], body: &[u8]) -> Option<usize>
+    requires { AreOfKind (map field_type fields.now) }
+    ensures { result ≡ found (body_word_count (some (map field_type fields.now)) body.now) }
+{
+    let mut place = Place { at: 0, words: 0 };
+    for field in fields {
+        place = behind_field(*field, body, place)?;
+    }
+    if body.len() != place.at {
+        return None;
+    }
+    Some(place.words)
+}
+
+// Writes the word of a number, and gives the place behind it.
+fn put_number(body: &[u8], place: Place, width: Width, values: &mut [u64]) -> Place
+    requires { (place.at + width_bytes width ≤ length body.now) × (place.words < length values.old) }
+    ensures written { values.new ≡ patch values.old place.words (number_in body.now place.at (width_bytes width) ∷ []) }
+    ensures behind { result ≡ record { at = place.at + width_bytes width; words = place.words + 1 } }
+{
+    let at = place.at;
+    let word = place.words;
+    values[word] = number(body, at, width);
+    Place {
+        at: at + width.bytes(),
+        words: word + 1,
+    }
+}
+
+// Writes the two words of a string, its start and its length, and gives the place behind it.
+fn put_string(body: &[u8], place: Place, values: &mut [u64]) -> Place
+    requires { (place.at + 2 + number_in body.now place.at 2 ≤ length body.now) × (place.words + 2 ≤ length values.old) }
+    ensures written { values.new ≡ patch values.old place.words ((place.at + 2) ∷ number_in body.now place.at 2 ∷ []) }
+    ensures behind { result ≡ record { at = place.at + 2 + number_in body.now place.at 2; words = place.words + 2 } }
+{
+    let at = place.at;
+    let word = place.words;
+    let start = at + 2;
+    let len = read_u16(body, at);
+    values[word] = start as u64;
+    values[word + 1] = len as u64;
+    Place {
+        at: start + len as usize,
+        words: word + 2,
+    }
+}
+
+// Writes the words of a field that fits, and gives the place behind it.
+fn put_field(field: Field, body: &[u8], place: Place, values: &mut [u64]) -> Place
+    requires { (field_fits (field_type field) body.now place.at ≡ true) × (place.words + word_count (field_type field) ≤ length values.old) }
+    ensures written { values.new ≡ patch values.old place.words (value_words (field_value (field_type field) body.now place.at)) }
+    ensures behind { result ≡ place_behind (field_type field) body.now place }
 {
     match field {
-        Field::Number(width, _, _) => at + width,
-        Field::String(_) => at + 2 + read_u16(body, at) as usize,
+        Field::StaffNumber => put_number(body, place, Width::Four, values),
+        Field::Password => put_number(body, place, Width::Eight, values),
+        Field::Picture => put_number(body, place, Width::Four, values),
+        Field::Visibility => put_number(body, place, Width::One, values),
+        Field::Text(_) => put_string(body, place, values),
     }
 }
 
-// How many words a body has, or 0 where it does not fit the fields of its kind.
-pub(crate) fn body_word_count(kind: u32, body: &[u8]) -> usize
-    ensures { result ≡ body_word_count (kind_fields kind) body.now }
+// Writes the words of a body that fits the fields.
+pub(crate) fn put_words(fields: &[Field], body: &[u8], values: &mut [u64])
+    requires { (fields_fit (map field_type fields.now) body.now 0 ≡ true) × (length (values_words (field_values (map field_type fields.now) body.now 0)) ≤ length values.old) }
+    ensures { values.new ≡ patch values.old 0 (values_words (field_values (map field_type fields.now) body.now 0)) }
 {
-    let fields = fields_of(kind);
-    let count = field_count(fields);
-    let mut at = 0;
-    let mut words = 0;
-    let mut index = 0;
-    while index < count {
-        let field = field_at(fields, index);
-        if !field_fits(field, body, at) {
-            return 0;
-        }
-        at = field_end(field, body, at);
-        words += word_count(field);
-        index += 1;
-    }
-    if body.len() != at {
-        return 0;
-    }
-    words
-}
-
-fn put_word(values: &mut [u64], word: usize, x: u64)
-    requires { word < length values.old }
-    ensures { values.new ≡ patch values.old word (x ∷ []) }
-{
-    values[word] = x;
-}
-
-// Writes the words of a field that fits: its number, or the start and the length of its string.
-fn put_field(field: Field, body: &[u8], at: usize, values: &mut [u64], word: usize)
-    requires { (is_readable (field_type field) ≡ true) × (field_fits (field_type field) body.now at ≡ true) × (word + word_count (field_type field) ≤ length values.old) }
-    ensures { values.new ≡ patch values.old word (value_words (field_value (field_type field) body.now at)) }
-{
-    match field {
-        Field::Number(width, _, _) => put_word(values, word, number(body, at, width)),
-        Field::String(_) => {
-            put_word(values, word, (at + 2) as u64);
-            put_word(values, word + 1, read_u16(body, at) as u64);
-        }
-    }
-}
-
-// Writes the words of a body that fits the fields of its kind.
-pub(crate) fn put_words(kind: u32, body: &[u8], values: &mut [u64])
-    requires { (fields_fit (listed_fields (kind_fields kind)) body.now 0 ≡ true) × (length (values_words (field_values (listed_fields (kind_fields kind)) body.now 0)) ≤ length values.old) }
-    ensures { values.new ≡ patch values.old 0 (values_words (field_values (listed_fields (kind_fields kind)) body.now 0)) }
-{
-    let fields = fields_of(kind);
-    let count = field_count(fields);
-    let mut at = 0;
-    let mut word = 0;
-    let mut index = 0;
-    while index < count {
-        let field = field_at(fields, index);
-        put_field(field, body, at, values, word);
-        at = field_end(field, body, at);
-        word += word_count(field);
-        index += 1;
+    let mut place = Place { at: 0, words: 0 };
+    for field in fields {
+        place = put_field(*field, body, place, values);
     }
 }

@@ -7,5 +7,5 @@ returns-then-counts-ne-COUNTS_SIZE c = counts-refused _ _ _ _ c.if-counts-ne-COU
 
 pub returns : goal.returns
 returns c =
-    replay_called_lem _ _ _ _ c.replay-done.result c.if-counts-ne-COUNTS_SIZE.false c.replay-done.ensures c.write_u64.ensures
-    c.write_u64-2.ensures c.write_u64-3.ensures c.stop_number.ensures
+    replay_called_lem _ _ _ _ c.replay-done.result c.if-counts-ne-COUNTS_SIZE.false c.replay-done.ensures c.write_number.ensures
+    c.write_number-2.ensures c.write_number-3.ensures c.from.ensures

@@ -9,7 +9,7 @@ use lib.Seq.{length-take-le}
 use lib.Pow.{are_bytes}
 use Rattle.layout.proofs.ByteLaws.{length_rest}
 use Rattle.layout.proofs.NumberLaws.{bytes_of}
-use Rattle.reader.proofs.FrameLaws.{found-inside}
+use Rattle.reader.proofs.FrameLaws.{found_none, found_is, found_some, found-inside}
 use Rattle.model.specs.Soundness.{is_sound}
 use Rattle.model.specs.Step.{StepResult}
 use Rattle.model.proofs.StepTheorems.{step_sound}
@@ -27,28 +27,28 @@ written-inside c =
     let s = c.step_sound-answer in
     answer-inside _ _ _ (board-bytes c) s.result s.new.board s.new.out s.ensures
 
-pub returns-then-len-eq0 : goal.returns-then-len-eq0
-returns-then-len-eq0 t c = journal_used_lem _ _ _ c.stopped.ensures c.if-len-eq0.true
+pub returns-then-is_empty : goal.returns-then-is_empty
+returns-then-is_empty t c = journal_used_lem _ _ _ c.stopped.ensures (sym c.is_empty.ensures ∙ c.if-is_empty.true)
 
 pub returns-then-out-lt-ANSWER_LIMIT : goal.returns-then-out-lt-ANSWER_LIMIT
 returns-then-out-lt-ANSWER_LIMIT t c =
-    buffer-short _ _ _ c.stopped-then-out-lt-ANSWER_LIMIT.ensures c.if-len-eq0.false c.if-out-lt-ANSWER_LIMIT.true
+    buffer-short _ _ _ c.stopped-then-out-lt-ANSWER_LIMIT.ensures (sym c.is_empty.ensures ∙ c.if-is_empty.false) c.if-out-lt-ANSWER_LIMIT.true
 
-pub returns-then-size-eq0 : goal.returns-then-size-eq0
-returns-then-size-eq0 t c =
-    frame-cut _ _ _ c.stopped-then-size-eq0.ensures c.if-len-eq0.false c.if-out-lt-ANSWER_LIMIT.false
-    (sym c.frame_length-size.ensures ∙ c.if-size-eq0.true)
+pub returns-in_default : goal.returns-in_default
+returns-in_default t c =
+    frame-cut _ _ _ c.stopped-in_default.ensures (sym c.is_empty.ensures ∙ c.if-is_empty.false) c.if-out-lt-ANSWER_LIMIT.false
+    (found_none (sym c.in_default.is ∙ c.frame_length.ensures))
 
 pub slice_bounds-step_sound-end : goal.slice_bounds-step_sound-end
 slice_bounds-step_sound-end t c =
-    sym (length-take-le c.frame_length-size.result c.args.journal.now (found-inside c.args.journal.now c.frame_length-size.ensures))
+    sym (length-take-le c.in-Some.size c.args.journal.now (found-inside c.args.journal.now (found_is c.in-Some.ensures)))
 
 -- the parts lent on
 pub slice_bounds-replay_rest-count : goal.slice_bounds-replay_rest-count
-slice_bounds-replay_rest-count t c = found-inside c.args.journal.now c.frame_length-size.ensures
+slice_bounds-replay_rest-count t c = found-inside c.args.journal.now (found_is c.in-Some.ensures)
 
 pub slice_bounds-replay_rest-start : goal.slice_bounds-replay_rest-start
-slice_bounds-replay_rest-start t c = found-inside c.args.journal.now c.frame_length-size.ensures
+slice_bounds-replay_rest-start t c = found-inside c.args.journal.now (found_is c.in-Some.ensures)
 
 pub slice_bounds-replay_rest-count-2 : goal.slice_bounds-replay_rest-count-2
 slice_bounds-replay_rest-count-2 t c = written-inside (goal.at.slice_bounds-replay_rest-count-2 t c).After-step_sound-answer
@@ -63,9 +63,9 @@ replay_rest-rest-requires t c =
     let bytes = board-bytes (goal.at.replay_rest-rest-requires t c).After-step_sound-answer in (
       omega (
         arith,
-        length_rest journal c.frame_length-size.result,
-        found-inside journal c.frame_length-size.ensures,
-        c.if-size-eq0.false,
+        length_rest journal c.in-Some.size,
+        found-inside journal (found_is c.in-Some.ensures),
+        (found_some _ c.in-Some.ensures),
         c.decreases,
       ),
       ap (λ (x : StepResult). is_sound x.board) c.step_sound-answer.ensures
@@ -78,6 +78,6 @@ returns t c =
     let bytes = board-bytes (goal.at.returns t c).After-step_sound-answer in
     let s = c.step_sound-answer in
     let r = c.replay_rest-rest in
-    message-done a.journal.now a.board.now a.out.now bytes c.frame_length-size.result s.result s.new.board s.new.out r.result
-    r.new.board r.new.out c.if-len-eq0.false c.if-out-lt-ANSWER_LIMIT.false c.frame_length-size.ensures c.if-size-eq0.false
+    message-done a.journal.now a.board.now a.out.now bytes c.in-Some.size s.result s.new.board s.new.out r.result
+    r.new.board r.new.out (sym c.is_empty.ensures ∙ c.if-is_empty.false) c.if-out-lt-ANSWER_LIMIT.false (found_is c.in-Some.ensures) (found_some _ c.in-Some.ensures)
     s.ensures r.ensures

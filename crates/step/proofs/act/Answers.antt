@@ -9,9 +9,12 @@ use Rattle.reader.specs.declared.Span.{Span}
 use Rattle.reader.specs.declared.Message.{Message}
 use Rattle.model.specs.Actions.{change, c_nu_req, c_post, c_friend_req, u_user, u_title_post, u_text_post}
 use Rattle.model.proofs.EnumActions.{enum_action}
-use Rattle.step.proofs.ActionLaws.{Decoded, decoded, change-acted, query-acted, refusal-acted, spans_of, span-inside, span-part, span-short, visibility-fits}
+use Rattle.step.proofs.ActionLaws.{Decoded, decoded, change-done, query-done, refusal-acted, done-acted, refused-acted, spans_of, span-inside, span-part, span-short, visibility-fits}
 use Rattle.step.proofs.act.Goals as goal
-use Rattle.step.proofs.act.Goals.{After-body-body}
+use Rattle.model.specs.Actions.{action_of}
+use Rattle.step.specs.ActionResults.{performed, action_result}
+use Rattle.step.proofs.act.Goals.{After-body-body, After-branch-done}
+use Rattle.step.proofs.act.Goals.{in-StartSys, in-CNUReq, in-CUser, in-CPost, in-CFriendReq, in-CFriend, in-DFriend, in-UUser, in-UTitlePost, in-UTextPost, in-UImgPost, in-UVisPost, in-RUser, in-RNUReq, in-RAmIAdmin, in-RTitlePost, in-RTextPost, in-RImgPost, in-RVisPost, in-ROwnerPost, in-RFriendReqToMe, in-RFriendReqFromMe, in-LPendingUReqs, in-LAllUsers, in-LAllPosts, in-LFriendReqs, in-LFriends, in-LFriendsOf}
 
 abbrev message_at : After-body-body → List ℕ
 message_at d = d.args.msg.now
@@ -102,192 +105,75 @@ pub update_visibility-requires : goal.update_visibility-requires
 update_visibility-requires c =
     (c.requires.0, visibility-fits (case-of (goal.at.update_visibility-requires c).After-body-body c.in-UVisPost.is))
 
--- ---- changes
-pub returns-in-StartSys : goal.returns-in-StartSys
-unfolding enum_action
-returns-in-StartSys c =
-    change-acted (board_at (goal.at.returns-in-StartSys c).After-body-body) (buffer_at (goal.at.returns-in-StartSys c).After-body-body) (case-of (goal.at.returns-in-StartSys c).After-body-body c.in-StartSys.is) refl
-    c.start_system.ensures c.without_body.ensures
+abbrev start : After-branch-done → After-body-body
+start c = (goal.at.After-branch-done c).After-body-body
 
-pub returns-in-CNUReq : goal.returns-in-CNUReq
+-- ---- what the function of the message's action has returned and left
+performs : (c : After-branch-done)
+    → performed c.match-message.done c.match-message.board c.match-message.out ≡ action_result (board_at (start c)) (action_of (message_at (start c))) (buffer_at (start c))
 unfolding enum_action
-returns-in-CNUReq c =
-    change-acted (board_at (goal.at.returns-in-CNUReq c).After-body-body) (buffer_at (goal.at.returns-in-CNUReq c).After-body-body) (case-of (goal.at.returns-in-CNUReq c).After-body-body c.in-CNUReq.is)
-    (ap (λ (x : List ℕ). change (c_nu_req c.in-CNUReq.u x))
-    (part_of (goal.at.returns-in-CNUReq c).After-body-body c.in-CNUReq.note c.span_bytes.ensures))
-    c.request_registration.ensures c.without_body-in-CNUReq.ensures
+performs c =
+    let d = start c in
+    elim c.match-message.branch [
+      | in-StartSys w ↦
+          change-done (board_at d) (buffer_at d) (case-of d w.in-StartSys.is) w.done-is _ refl w.start_system.ensures w.without_body-done.ensures w.board-is w.out-is
+      | in-CNUReq w ↦
+          change-done (board_at d) (buffer_at d) (case-of d w.in-CNUReq.is) w.done-is _
+          (ap (λ (x : List ℕ). change (c_nu_req w.in-CNUReq.u x)) (part_of d w.in-CNUReq.note w.span_bytes.ensures)) w.request_registration.ensures w.without_body-done-in-CNUReq.ensures w.board-is w.out-is
+      | in-CUser w ↦
+          change-done (board_at d) (buffer_at d) (case-of d w.in-CUser.is) w.done-is _ refl w.register_user.ensures w.without_body-done-in-CUser.ensures w.board-is w.out-is
+      | in-CPost w ↦
+          change-done (board_at d) (buffer_at d) (case-of d w.in-CPost.is) w.done-is _
+          (ap (λ (x : List ℕ). change (c_post w.in-CPost.login.user w.in-CPost.login.password w.in-CPost.n x)) (part_of d w.in-CPost.title w.span_bytes-in-CPost.ensures)) w.create_post.ensures w.without_body-done-in-CPost.ensures w.board-is w.out-is
+      | in-CFriendReq w ↦
+          change-done (board_at d) (buffer_at d) (case-of d w.in-CFriendReq.is) w.done-is _
+          (ap (λ (x : List ℕ). change (c_friend_req w.in-CFriendReq.login.user w.in-CFriendReq.login.password w.in-CFriendReq.v x)) (part_of d w.in-CFriendReq.note w.span_bytes-in-CFriendReq.ensures)) w.request_friend.ensures w.without_body-done-in-CFriendReq.ensures w.board-is w.out-is
+      | in-CFriend w ↦
+          change-done (board_at d) (buffer_at d) (case-of d w.in-CFriend.is) w.done-is _ refl w.accept_request.ensures w.without_body-done-in-CFriend.ensures w.board-is w.out-is
+      | in-DFriend w ↦
+          change-done (board_at d) (buffer_at d) (case-of d w.in-DFriend.is) w.done-is _ refl w.end_friendship.ensures w.without_body-done-in-DFriend.ensures w.board-is w.out-is
+      | in-UUser w ↦
+          change-done (board_at d) (buffer_at d) (case-of d w.in-UUser.is) w.done-is _
+          (ap₂ (λ (x y : List ℕ). change (u_user w.in-UUser.login.user w.in-UUser.login.password w.in-UUser.password x y))
+          (part_of d w.in-UUser.name w.span_bytes-in-UUser.ensures) (part_of d w.in-UUser.info w.span_bytes-in-UUser-2.ensures)) w.update_user.ensures w.without_body-done-in-UUser.ensures w.board-is w.out-is
+      | in-UTitlePost w ↦
+          change-done (board_at d) (buffer_at d) (case-of d w.in-UTitlePost.is) w.done-is _
+          (ap (λ (x : List ℕ). change (u_title_post w.in-UTitlePost.login.user w.in-UTitlePost.login.password w.in-UTitlePost.n x)) (part_of d w.in-UTitlePost.title w.span_bytes-in-UTitlePost.ensures)) w.update_title.ensures w.without_body-done-in-UTitlePost.ensures w.board-is w.out-is
+      | in-UTextPost w ↦
+          change-done (board_at d) (buffer_at d) (case-of d w.in-UTextPost.is) w.done-is _
+          (ap (λ (x : List ℕ). change (u_text_post w.in-UTextPost.login.user w.in-UTextPost.login.password w.in-UTextPost.n x)) (part_of d w.in-UTextPost.text w.span_bytes-in-UTextPost.ensures)) w.update_text.ensures w.without_body-done-in-UTextPost.ensures w.board-is w.out-is
+      | in-UImgPost w ↦
+          change-done (board_at d) (buffer_at d) (case-of d w.in-UImgPost.is) w.done-is _ refl w.update_picture.ensures w.without_body-done-in-UImgPost.ensures w.board-is w.out-is
+      | in-UVisPost w ↦
+          change-done (board_at d) (buffer_at d) (case-of d w.in-UVisPost.is) w.done-is _ refl w.update_visibility.ensures w.without_body-done-in-UVisPost.ensures w.board-is w.out-is
+      | in-RUser w ↦ query-done (board_at d) (buffer_at d) (case-of d w.in-RUser.is) w.done-is refl w.read_user-done.ensures w.board-is w.out-is
+      | in-RNUReq w ↦ query-done (board_at d) (buffer_at d) (case-of d w.in-RNUReq.is) w.done-is refl w.read_pending-done.ensures w.board-is w.out-is
+      | in-RAmIAdmin w ↦ query-done (board_at d) (buffer_at d) (case-of d w.in-RAmIAdmin.is) w.done-is refl w.read_admin-done.ensures w.board-is w.out-is
+      | in-RTitlePost w ↦ query-done (board_at d) (buffer_at d) (case-of d w.in-RTitlePost.is) w.done-is refl w.read_title-done.ensures w.board-is w.out-is
+      | in-RTextPost w ↦ query-done (board_at d) (buffer_at d) (case-of d w.in-RTextPost.is) w.done-is refl w.read_text-done.ensures w.board-is w.out-is
+      | in-RImgPost w ↦ query-done (board_at d) (buffer_at d) (case-of d w.in-RImgPost.is) w.done-is refl w.read_picture-done.ensures w.board-is w.out-is
+      | in-RVisPost w ↦ query-done (board_at d) (buffer_at d) (case-of d w.in-RVisPost.is) w.done-is refl w.read_visibility-done.ensures w.board-is w.out-is
+      | in-ROwnerPost w ↦ query-done (board_at d) (buffer_at d) (case-of d w.in-ROwnerPost.is) w.done-is refl w.read_owner-done.ensures w.board-is w.out-is
+      | in-RFriendReqToMe w ↦ query-done (board_at d) (buffer_at d) (case-of d w.in-RFriendReqToMe.is) w.done-is refl w.read_request_to-done.ensures w.board-is w.out-is
+      | in-RFriendReqFromMe w ↦ query-done (board_at d) (buffer_at d) (case-of d w.in-RFriendReqFromMe.is) w.done-is refl w.read_request_from-done.ensures w.board-is w.out-is
+      | in-LPendingUReqs w ↦ query-done (board_at d) (buffer_at d) (case-of d w.in-LPendingUReqs.is) w.done-is refl w.list_pending-done.ensures w.board-is w.out-is
+      | in-LAllUsers w ↦ query-done (board_at d) (buffer_at d) (case-of d w.in-LAllUsers.is) w.done-is refl w.list_users-done.ensures w.board-is w.out-is
+      | in-LAllPosts w ↦ query-done (board_at d) (buffer_at d) (case-of d w.in-LAllPosts.is) w.done-is refl w.list_posts-done.ensures w.board-is w.out-is
+      | in-LFriendReqs w ↦ query-done (board_at d) (buffer_at d) (case-of d w.in-LFriendReqs.is) w.done-is refl w.list_requests-done.ensures w.board-is w.out-is
+      | in-LFriends w ↦ query-done (board_at d) (buffer_at d) (case-of d w.in-LFriends.is) w.done-is refl w.list_friends-done.ensures w.board-is w.out-is
+      | in-LFriendsOf w ↦ query-done (board_at d) (buffer_at d) (case-of d w.in-LFriendsOf.is) w.done-is refl w.list_friends_of-done.ensures w.board-is w.out-is
+    ]
 
-pub returns-in-CUser : goal.returns-in-CUser
-unfolding enum_action
-returns-in-CUser c =
-    change-acted (board_at (goal.at.returns-in-CUser c).After-body-body) (buffer_at (goal.at.returns-in-CUser c).After-body-body) (case-of (goal.at.returns-in-CUser c).After-body-body c.in-CUser.is) refl
-    c.register_user.ensures c.without_body-in-CUser.ensures
+pub returns-in_err-done : goal.returns-in_err-done
+returns-in_err-done c =
+    refused-acted (performs (goal.at.returns-in_err-done c).After-branch-done) _ _ c.from_residual.ensures.1 c.in_err-done.was
 
-pub returns-in-CPost : goal.returns-in-CPost
-unfolding enum_action
-returns-in-CPost c =
-    change-acted (board_at (goal.at.returns-in-CPost c).After-body-body) (buffer_at (goal.at.returns-in-CPost c).After-body-body) (case-of (goal.at.returns-in-CPost c).After-body-body c.in-CPost.is)
-    (ap (λ (x : List ℕ). change (c_post c.in-CPost.login.user c.in-CPost.login.password c.in-CPost.n x))
-    (part_of (goal.at.returns-in-CPost c).After-body-body c.in-CPost.title c.span_bytes-in-CPost.ensures))
-    c.create_post.ensures c.without_body-in-CPost.ensures
-
-pub returns-in-CFriendReq : goal.returns-in-CFriendReq
-unfolding enum_action
-returns-in-CFriendReq c =
-    change-acted (board_at (goal.at.returns-in-CFriendReq c).After-body-body) (buffer_at (goal.at.returns-in-CFriendReq c).After-body-body) (case-of (goal.at.returns-in-CFriendReq c).After-body-body c.in-CFriendReq.is)
-    (ap (λ (x : List ℕ). change (c_friend_req c.in-CFriendReq.login.user c.in-CFriendReq.login.password c.in-CFriendReq.v x))
-    (part_of (goal.at.returns-in-CFriendReq c).After-body-body c.in-CFriendReq.note c.span_bytes-in-CFriendReq.ensures))
-    c.request_friend.ensures c.without_body-in-CFriendReq.ensures
-
-pub returns-in-CFriend : goal.returns-in-CFriend
-unfolding enum_action
-returns-in-CFriend c =
-    change-acted (board_at (goal.at.returns-in-CFriend c).After-body-body) (buffer_at (goal.at.returns-in-CFriend c).After-body-body) (case-of (goal.at.returns-in-CFriend c).After-body-body c.in-CFriend.is) refl
-    c.accept_request.ensures c.without_body-in-CFriend.ensures
-
-pub returns-in-DFriend : goal.returns-in-DFriend
-unfolding enum_action
-returns-in-DFriend c =
-    change-acted (board_at (goal.at.returns-in-DFriend c).After-body-body) (buffer_at (goal.at.returns-in-DFriend c).After-body-body) (case-of (goal.at.returns-in-DFriend c).After-body-body c.in-DFriend.is) refl
-    c.end_friendship.ensures c.without_body-in-DFriend.ensures
-
-pub returns-in-UUser : goal.returns-in-UUser
-unfolding enum_action
-returns-in-UUser c =
-    change-acted (board_at (goal.at.returns-in-UUser c).After-body-body) (buffer_at (goal.at.returns-in-UUser c).After-body-body) (case-of (goal.at.returns-in-UUser c).After-body-body c.in-UUser.is)
-    (ap₂ (λ (x y : List ℕ). change (u_user c.in-UUser.login.user c.in-UUser.login.password c.in-UUser.password x y))
-    (part_of (goal.at.returns-in-UUser c).After-body-body c.in-UUser.name c.span_bytes-in-UUser.ensures)
-    (part_of (goal.at.returns-in-UUser c).After-body-body c.in-UUser.info c.span_bytes-in-UUser-2.ensures))
-    c.update_user.ensures c.without_body-in-UUser.ensures
-
-pub returns-in-UTitlePost : goal.returns-in-UTitlePost
-unfolding enum_action
-returns-in-UTitlePost c =
-    change-acted (board_at (goal.at.returns-in-UTitlePost c).After-body-body) (buffer_at (goal.at.returns-in-UTitlePost c).After-body-body) (case-of (goal.at.returns-in-UTitlePost c).After-body-body c.in-UTitlePost.is)
-    (ap (λ (x : List ℕ). change (u_title_post c.in-UTitlePost.login.user c.in-UTitlePost.login.password c.in-UTitlePost.n x))
-    (part_of (goal.at.returns-in-UTitlePost c).After-body-body c.in-UTitlePost.title c.span_bytes-in-UTitlePost.ensures))
-    c.update_title.ensures c.without_body-in-UTitlePost.ensures
-
-pub returns-in-UTextPost : goal.returns-in-UTextPost
-unfolding enum_action
-returns-in-UTextPost c =
-    change-acted (board_at (goal.at.returns-in-UTextPost c).After-body-body) (buffer_at (goal.at.returns-in-UTextPost c).After-body-body) (case-of (goal.at.returns-in-UTextPost c).After-body-body c.in-UTextPost.is)
-    (ap (λ (x : List ℕ). change (u_text_post c.in-UTextPost.login.user c.in-UTextPost.login.password c.in-UTextPost.n x))
-    (part_of (goal.at.returns-in-UTextPost c).After-body-body c.in-UTextPost.text c.span_bytes-in-UTextPost.ensures))
-    c.update_text.ensures c.without_body-in-UTextPost.ensures
-
-pub returns-in-UImgPost : goal.returns-in-UImgPost
-unfolding enum_action
-returns-in-UImgPost c =
-    change-acted (board_at (goal.at.returns-in-UImgPost c).After-body-body) (buffer_at (goal.at.returns-in-UImgPost c).After-body-body) (case-of (goal.at.returns-in-UImgPost c).After-body-body c.in-UImgPost.is) refl
-    c.update_picture.ensures c.without_body-in-UImgPost.ensures
-
-pub returns-in-UVisPost : goal.returns-in-UVisPost
-unfolding enum_action
-returns-in-UVisPost c =
-    change-acted (board_at (goal.at.returns-in-UVisPost c).After-body-body) (buffer_at (goal.at.returns-in-UVisPost c).After-body-body) (case-of (goal.at.returns-in-UVisPost c).After-body-body c.in-UVisPost.is) refl
-    c.update_visibility.ensures c.without_body-in-UVisPost.ensures
-
--- ---- queries
-pub returns-in-RUser : goal.returns-in-RUser
-unfolding enum_action
-returns-in-RUser c =
-    query-acted (board_at (goal.at.returns-in-RUser c).After-body-body) (buffer_at (goal.at.returns-in-RUser c).After-body-body) (case-of (goal.at.returns-in-RUser c).After-body-body c.in-RUser.is) refl
-    c.read_user.ensures
-
-pub returns-in-RNUReq : goal.returns-in-RNUReq
-unfolding enum_action
-returns-in-RNUReq c =
-    query-acted (board_at (goal.at.returns-in-RNUReq c).After-body-body) (buffer_at (goal.at.returns-in-RNUReq c).After-body-body) (case-of (goal.at.returns-in-RNUReq c).After-body-body c.in-RNUReq.is) refl
-    c.read_pending.ensures
-
-pub returns-in-RAmIAdmin : goal.returns-in-RAmIAdmin
-unfolding enum_action
-returns-in-RAmIAdmin c =
-    query-acted (board_at (goal.at.returns-in-RAmIAdmin c).After-body-body) (buffer_at (goal.at.returns-in-RAmIAdmin c).After-body-body) (case-of (goal.at.returns-in-RAmIAdmin c).After-body-body c.in-RAmIAdmin.is) refl
-    c.read_admin.ensures
-
-pub returns-in-RTitlePost : goal.returns-in-RTitlePost
-unfolding enum_action
-returns-in-RTitlePost c =
-    query-acted (board_at (goal.at.returns-in-RTitlePost c).After-body-body) (buffer_at (goal.at.returns-in-RTitlePost c).After-body-body) (case-of (goal.at.returns-in-RTitlePost c).After-body-body c.in-RTitlePost.is) refl
-    c.read_title.ensures
-
-pub returns-in-RTextPost : goal.returns-in-RTextPost
-unfolding enum_action
-returns-in-RTextPost c =
-    query-acted (board_at (goal.at.returns-in-RTextPost c).After-body-body) (buffer_at (goal.at.returns-in-RTextPost c).After-body-body) (case-of (goal.at.returns-in-RTextPost c).After-body-body c.in-RTextPost.is) refl
-    c.read_text.ensures
-
-pub returns-in-RImgPost : goal.returns-in-RImgPost
-unfolding enum_action
-returns-in-RImgPost c =
-    query-acted (board_at (goal.at.returns-in-RImgPost c).After-body-body) (buffer_at (goal.at.returns-in-RImgPost c).After-body-body) (case-of (goal.at.returns-in-RImgPost c).After-body-body c.in-RImgPost.is) refl
-    c.read_picture.ensures
-
-pub returns-in-RVisPost : goal.returns-in-RVisPost
-unfolding enum_action
-returns-in-RVisPost c =
-    query-acted (board_at (goal.at.returns-in-RVisPost c).After-body-body) (buffer_at (goal.at.returns-in-RVisPost c).After-body-body) (case-of (goal.at.returns-in-RVisPost c).After-body-body c.in-RVisPost.is) refl
-    c.read_visibility.ensures
-
-pub returns-in-ROwnerPost : goal.returns-in-ROwnerPost
-unfolding enum_action
-returns-in-ROwnerPost c =
-    query-acted (board_at (goal.at.returns-in-ROwnerPost c).After-body-body) (buffer_at (goal.at.returns-in-ROwnerPost c).After-body-body) (case-of (goal.at.returns-in-ROwnerPost c).After-body-body c.in-ROwnerPost.is) refl
-    c.read_owner.ensures
-
-pub returns-in-RFriendReqToMe : goal.returns-in-RFriendReqToMe
-unfolding enum_action
-returns-in-RFriendReqToMe c =
-    query-acted (board_at (goal.at.returns-in-RFriendReqToMe c).After-body-body) (buffer_at (goal.at.returns-in-RFriendReqToMe c).After-body-body) (case-of (goal.at.returns-in-RFriendReqToMe c).After-body-body c.in-RFriendReqToMe.is) refl
-    c.read_request_to.ensures
-
-pub returns-in-RFriendReqFromMe : goal.returns-in-RFriendReqFromMe
-unfolding enum_action
-returns-in-RFriendReqFromMe c =
-    query-acted (board_at (goal.at.returns-in-RFriendReqFromMe c).After-body-body) (buffer_at (goal.at.returns-in-RFriendReqFromMe c).After-body-body) (case-of (goal.at.returns-in-RFriendReqFromMe c).After-body-body c.in-RFriendReqFromMe.is) refl
-    c.read_request_from.ensures
-
-pub returns-in-LPendingUReqs : goal.returns-in-LPendingUReqs
-unfolding enum_action
-returns-in-LPendingUReqs c =
-    query-acted (board_at (goal.at.returns-in-LPendingUReqs c).After-body-body) (buffer_at (goal.at.returns-in-LPendingUReqs c).After-body-body) (case-of (goal.at.returns-in-LPendingUReqs c).After-body-body c.in-LPendingUReqs.is) refl
-    c.list_pending.ensures
-
-pub returns-in-LAllUsers : goal.returns-in-LAllUsers
-unfolding enum_action
-returns-in-LAllUsers c =
-    query-acted (board_at (goal.at.returns-in-LAllUsers c).After-body-body) (buffer_at (goal.at.returns-in-LAllUsers c).After-body-body) (case-of (goal.at.returns-in-LAllUsers c).After-body-body c.in-LAllUsers.is) refl
-    c.list_users.ensures
-
-pub returns-in-LAllPosts : goal.returns-in-LAllPosts
-unfolding enum_action
-returns-in-LAllPosts c =
-    query-acted (board_at (goal.at.returns-in-LAllPosts c).After-body-body) (buffer_at (goal.at.returns-in-LAllPosts c).After-body-body) (case-of (goal.at.returns-in-LAllPosts c).After-body-body c.in-LAllPosts.is) refl
-    c.list_posts.ensures
-
-pub returns-in-LFriendReqs : goal.returns-in-LFriendReqs
-unfolding enum_action
-returns-in-LFriendReqs c =
-    query-acted (board_at (goal.at.returns-in-LFriendReqs c).After-body-body) (buffer_at (goal.at.returns-in-LFriendReqs c).After-body-body) (case-of (goal.at.returns-in-LFriendReqs c).After-body-body c.in-LFriendReqs.is) refl
-    c.list_requests.ensures
-
-pub returns-in-LFriends : goal.returns-in-LFriends
-unfolding enum_action
-returns-in-LFriends c =
-    query-acted (board_at (goal.at.returns-in-LFriends c).After-body-body) (buffer_at (goal.at.returns-in-LFriends c).After-body-body) (case-of (goal.at.returns-in-LFriends c).After-body-body c.in-LFriends.is) refl
-    c.list_friends.ensures
-
-pub returns-in-LFriendsOf : goal.returns-in-LFriendsOf
-unfolding enum_action
-returns-in-LFriendsOf c =
-    query-acted (board_at (goal.at.returns-in-LFriendsOf c).After-body-body) (buffer_at (goal.at.returns-in-LFriendsOf c).After-body-body) (case-of (goal.at.returns-in-LFriendsOf c).After-body-body c.in-LFriendsOf.is) refl
-    c.list_friends_of.ensures
+pub returns : goal.returns
+returns c = done-acted (performs (goal.at.returns c).After-branch-done) c.in_ok-done.was
 
 -- ---- refusals of the reader
 pub returns-in-Refused : goal.returns-in-Refused
 unfolding enum_action
 returns-in-Refused c =
-    refusal-acted (board_at (goal.at.returns-in-Refused c).After-body-body) (buffer_at (goal.at.returns-in-Refused c).After-body-body) (case-of (goal.at.returns-in-Refused c).After-body-body c.in-Refused.is) refl
-    c.refusal_number.ensures c.without_body-in-Refused.ensures
+    let d = (goal.at.returns-in-Refused c).After-body-body in
+    refusal-acted (board_at d) (buffer_at d) (case-of d c.in-Refused.is) refl c.from.ensures

@@ -1,20 +1,20 @@
--- The goals of `write_answer` that need a hand.
-use native.Mathlib.Omega.{arith}
-use borrow.Author.Rules.{rules}
-use Rattle.transcript.proofs.AnswerLineLaws.{no_digits, byte_written, line-written}
+-- `write_answer` meets its contract: the line feed stands behind the digits.
+use Rattle.std.proofs.Common.{◌≡◌, ap, arith, length}
+use Rattle.hex.specs.Hex.{encode_lower}
+use Rattle.report.proofs.TextLaws.{Writes-append}
+use Rattle.transcript.specs.AnswerLines.{answer_line}
+use Rattle.transcript.proofs.AnswerLineLaws.{digits_of, length_digits, digits-written}
 use Rattle.transcript.proofs.write_answer.Goals as goal
+use Rattle.transcript.proofs.write_answer.Goals.{After-digits}
 
-pub loop-i-init : goal.loop-i-init
-loop-i-init c = (omega arith, search rules, search rules, no_digits _ _ c.args.answer.now)
+digits : (c : After-digits) → encode_lower c.args.answer.now ≡ digits_of c.args.answer.now
+digits c = digits-written _ (λ i. omega (arith, c.shared_slice_known-1.given i))
 
-pub loop-i-preserved : goal.loop-i-preserved
-loop-i-preserved c = (
-  omega arith,
-  search rules,
-  search rules,
-  byte_written _ _ _ c.requires c.loop-i.i (omega arith) c.loop-i.invariant.2 c.loop-i.invariant.3 c.write_byte.ensures,
-)
+pub bytes-requires : goal.bytes-requires
+bytes-requires c = omega (arith, c.requires, c.digits.ensures.size, c.digits.ensures.kept, ap length (digits (goal.at.bytes-requires c).After-digits), length_digits c.args.answer.now)
 
 pub returns : goal.returns
+unfolding answer_line
 returns c =
-    line-written _ _ _ c.requires c.loop-i.i (omega arith) c.loop-i.invariant.2 c.loop-i.invariant.3 c.write_bytes.ensures
+    let e = digits (goal.at.returns c).After-digits in
+    rw (← e) (Writes-append c.digits.ensures c.bytes.ensures (omega (arith, c.requires, ap length e, length_digits c.args.answer.now)))

@@ -11,15 +11,14 @@ use Rattle.board.proofs.friends.symmetric_row.Goals as goal
 
 pub loop-j-init : goal.loop-j-init
 unfolding all_below
-loop-j-init c = (omega arith, c.friend_row-rest.ensures ∙ sym (div-one _), refl)
+loop-j-init c = (c.friend_row-rest.ensures ∙ sym (div-one _), refl)
 
 pub loop-j-preserved : goal.loop-j-preserved
 loop-j-preserved c =
     let a = c.args in
     let inv = c.loop-j.invariant in (
-      omega arith,
-      ap (λ (x : ℕ). x / 2) inv.1 ∙ shr-shr (friend_row a.b.now a.i) c.loop-j.j 1,
-      gather_bits a.b.now a.i c.loop-j.j c.loop-j.differing inv.1 c.friend_row.ensures inv.2,
+      ap (λ (x : ℕ). x / 2) inv.0 ∙ shr-shr (friend_row a.users.now a.i) c.loop-j.j 1,
+      gather_bits a.users.now a.i c.loop-j.j c.loop-j.differing inv.0 c.friend_row.ensures inv.1,
     )
 
 pub returns : goal.returns
@@ -27,4 +26,4 @@ returns c =
     let l = c.loop-j in
     let a = c.args in
     let all-compared : l.j ≡ a.i = omega arith in
-    l.invariant.2 ∙ ap (λ (k : ℕ). all_below k (symmetric_at a.b.now a.i)) all-compared
+    l.invariant.1 ∙ ap (λ (k : ℕ). all_below k (symmetric_at a.users.now a.i)) all-compared

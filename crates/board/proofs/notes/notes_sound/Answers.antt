@@ -1,45 +1,47 @@
--- The goals of `notes_sound` that need a hand.
+-- `notes_sound` meets its contract: the notes to each user fit its row, and those to other slots are one run.
 use native.Mathlib.Omega.{arith}
-use mathlib.Core.Path.{refl, sym, ◌∙◌}
-use Rattle.layout.proofs.BooleanLaws.{test_fails, test_holds, chain_stops, chain_goes_on}
-use Rattle.model.proofs.SoundnessLaws.{within-limits}
-use Rattle.board.proofs.LoopLaws.{passed_none, passed-next, passed_stops, passed-ends}
-use Rattle.board.proofs.NoteClauses.{notes-clause}
+use mathlib.Core.List.{List}
+use mathlib.Core.Path.{◌≡◌, sym, ap, ◌∙◌}
+use lib.ListN.{length, drop}
+use lib.Dec.{lit<}
+use Rattle.std.proofs.Common.{ℕ, rules}
+use Rattle.std.proofs.lemmas.Iterator.{YieldsList-from_slice, YieldsList-from_zip}
+use Rattle.std.proofs.lemmas.Iterator.Search.{all_from_yields_List}
+use Rattle.layout.specs.Bytes.{all_zero}
+use Rattle.layout.proofs.BooleanLaws.{call_stops, call_goes_on}
+use Rattle.model.specs.Lists.{for_all, all_below}
+use Rattle.model.specs.Board.{decode_user}
+use Rattle.board.specs.BoardTests.{records_at}
+use Rattle.board.proofs.RecordPlaces.{used-limits}
+use Rattle.board.proofs.NoteClauses.{notes_fit, user_notes_fit, users-with-notes, used-slots, unused-slots, notes-clause}
 use Rattle.board.proofs.notes.notes_sound.Goals as goal
+use Rattle.board.proofs.notes.notes_sound.Goals.{After-all}
 
-pub loop-i-init : goal.loop-i-init
-loop-i-init c = let w = within-limits _ c.requires.1 in (omega arith, passed_none refl)
+pub slice_bounds-unused_zero-end : goal.slice_bounds-unused_zero-end
+slice_bounds-unused_zero-end c = sym (used-slots c.args.board.now c.records-slots.ensures)
 
-pub returns-then-not-notes_to : goal.returns-then-not-notes_to
-returns-then-not-notes_to c =
-    chain_stops _ _
-    (sym (passed_stops c.loop-i.invariant.1 c.loop-i-test.true (test_fails c.notes_to.ensures c.if-not-notes_to.true)))
-    ∙ sym (notes-clause _ c.requires c.user_count-n.ensures)
+pub unused_zero-requires : goal.unused_zero-requires
+unused_zero-requires c =
+    let n = (used-limits c.args.board.now).0 in
+    (lit< tt, (omega (arith, used-slots c.args.board.now c.records-slots.ensures), omega arith))
 
-pub overflow_add-i : goal.overflow_add-i
-overflow_add-i c = omega arith
+-- what the chain tests
+tested : (c : After-all) → let board = c.args.board.now in c.all.result ≡ all_below (length board.users.now) (user_notes_fit board)
+tested c =
+    let board = c.args.board.now in
+    all_from_yields_List {s = c.zip.result} (λ (p : List ℕ × List ℕ). notes_fit p.1 (decode_user p.0).requests) c.all.new.self _ _ c.all.ensures.ran
+    (YieldsList-from_zip (YieldsList-from_slice board.users.now cc) (YieldsList-from_slice c.records-slots.result.now cc)) (λ x b q k. search rules)
+    ∙ users-with-notes board c.records-slots.ensures
 
-pub loop-i-smaller : goal.loop-i-smaller
-loop-i-smaller c = omega arith
+pub returns-then-all : goal.returns-then-all
+returns-then-all c =
+    let board = c.args.board.now in
+    call_goes_on _ (tested (goal.at.returns-then-all c).After-all) c.if-all.true
+    (c.unused_zero.ensures
+    ∙ ap (λ (k : ℕ). for_all all_zero (drop k (records_at board.bytes.now 23824 832 32))) (used-slots board c.records-slots.ensures)
+    ∙ unused-slots board)
+    ∙ sym (notes-clause board)
 
-pub loop-i-preserved : goal.loop-i-preserved
-loop-i-preserved c =
-    let inv = c.loop-i.invariant in
-    (inv.0, passed-next inv.1 c.loop-i-test.true (test_holds c.notes_to.ensures c.if-not-notes_to.false))
-
-pub overflow_mul-n : goal.overflow_mul-n
-overflow_mul-n c = omega arith
-
-pub overflow_add-n : goal.overflow_add-n
-overflow_add-n c = omega arith
-
-pub overflow_sub-n : goal.overflow_sub-n
-overflow_sub-n c = omega arith
-
-pub overflow_mul-n-2 : goal.overflow_mul-n-2
-overflow_mul-n-2 c = omega arith
-
-pub returns : goal.returns
-returns c =
-    chain_goes_on _ _ (sym (passed-ends c.loop-i.invariant.1 c.loop-i-test.false)) c.all_zero.ensures
-    ∙ sym (notes-clause _ c.requires c.user_count-n.ensures)
+pub returns-else-all : goal.returns-else-all
+returns-else-all c =
+    c.if-all.false ∙ call_stops _ (tested (goal.at.returns-else-all c).After-all) c.if-all.false ∙ sym (notes-clause c.args.board.now)

@@ -9,7 +9,7 @@ use Rattle.changes.proofs.creations.add_post.Goals as goal
 pub returns : goal.returns
 returns c =
     let a = c.args in
-    let first = then_number refl 2 refl 2 (a.n + 1) (omega arith) c.write_u16.ensures in
-    let second = then_number first (3344 + a.n * 312) refl 4 a.number (omega arith) c.write_u32.ensures in
-    let third = then_number second (3344 + a.n * 312 + 8) refl 2 a.owner (omega arith) c.write_u16-2.ensures in
+    let first = then_number refl 2 refl 2 (a.n + 1) (omega arith) c.write_number.ensures in
+    let second = then_number first (3344 + a.n * 312) refl 4 a.number (omega arith) c.write_number-2.ensures in
+    let third = then_number second (3344 + a.n * 312 + 8) refl 2 a.owner (omega arith) c.write_number-3.ensures in
     then_string third (3344 + a.n * 312 + 12) refl title_limit a.title.now c.requires.3 (omega arith) c.write_string.ensures

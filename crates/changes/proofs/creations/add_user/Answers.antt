@@ -8,6 +8,6 @@ use Rattle.changes.proofs.creations.add_user.Goals as goal
 pub returns : goal.returns
 returns c =
     let a = c.args in
-    let first = then_number refl 0 refl 2 (a.n + 1) (omega arith) c.write_u16.ensures in
-    let second = then_number first (16 + a.n * 104) refl 4 a.u (omega arith) c.write_u32.ensures in
-    then_number second (16 + a.n * 104 + 4) refl 8 a.password (omega arith) c.write_u64.ensures
+    let first = then_number refl 0 refl 2 (a.n + 1) (omega arith) c.write_number.ensures in
+    let second = then_number first (16 + a.n * 104) refl 4 a.u (omega arith) c.write_number-2.ensures in
+    then_number second (16 + a.n * 104 + 4) refl 8 a.password (omega arith) c.write_number-3.ensures

@@ -12,41 +12,41 @@ use Rattle.model.proofs.ChangeWrites.{pending_added, writes_c_nu_req}
 use Rattle.model.proofs.SoundBoards.{sound-length}
 use Rattle.changes.proofs.ChangeRows.{RowsBehind, all_rows, refused-here, passed_here, accepted-here}
 use Rattle.changes.proofs.creations.request_registration.Goals as goal
-use Rattle.changes.proofs.creations.request_registration.Goals.{Else-is_pending, Else-is_registered, Else-user_count-eq0, Start}
+use Rattle.changes.proofs.creations.request_registration.Goals.{then-holds-via-then-holds, then-holds-via-else-holds+then-holds-2, Else-holds-2, Else-count-eq0, Start}
 
 -- the rows left behind the first k
 abbrev LeftBehind : ℕ → Start → Type 0
 LeftBehind k c = RowsBehind c.args.board.now (c_nu_req c.args.u c.args.note.now) k
 
-behind-users : (c : Else-user_count-eq0) → LeftBehind 1 (goal.at.Else-user_count-eq0 c).Start
+behind-users : (c : Else-count-eq0) → LeftBehind 1 (goal.at.Else-count-eq0 c).Start
 unfolding change_refusals
-behind-users c = passed_here (all_rows _ _) (ne_eqb _ 0 (λ e. c.if-user_count-eq0.false (c.user_count.ensures ∙ e)))
+behind-users c = passed_here (all_rows _ _) (ne_eqb _ 0 (λ e. c.if-count-eq0.false (c.count.ensures ∙ e)))
 
-behind-registered : (c : Else-is_registered) → LeftBehind 2 (goal.at.Else-is_registered c).Start
+behind-tables : (c : Else-holds-2) → LeftBehind 3 (goal.at.Else-holds-2 c).Start
 unfolding change_refusals
-behind-registered c = passed_here (behind-users (goal.at.Else-is_registered c).Else-user_count-eq0) (sym c.is_registered.ensures ∙ c.if-is_registered.false)
+behind-tables c =
+    passed_here (passed_here (behind-users (goal.at.Else-holds-2 c).Else-count-eq0) (sym c.holds.ensures ∙ c.if-holds.false)) (sym c.holds-else-holds.ensures ∙ c.if-holds-2.false)
 
-behind-pending : (c : Else-is_pending) → LeftBehind 3 (goal.at.Else-is_pending c).Start
-unfolding change_refusals
-behind-pending c = passed_here (behind-registered (goal.at.Else-is_pending c).Else-is_registered) (sym c.is_pending.ensures ∙ c.if-is_pending.false)
-
-pub returns-then-user_count-eq0 : goal.returns-then-user_count-eq0
+pub returns-then-count-eq0 : goal.returns-then-count-eq0
 unfolding change_refusals cause_number
-returns-then-user_count-eq0 c = refused-here (all_rows _ _) (eq-eqb _ 0 (sym c.user_count.ensures ∙ c.if-user_count-eq0.true))
+returns-then-count-eq0 c = refused-here (all_rows _ _) (eq-eqb _ 0 (sym c.count.ensures ∙ c.if-count-eq0.true))
 
-pub returns-then-is_registered : goal.returns-then-is_registered
+pub returns-then-holds : goal.returns-then-holds
 unfolding change_refusals cause_number
-returns-then-is_registered c = refused-here (behind-users (goal.at.returns-then-is_registered c).Else-user_count-eq0) (sym c.is_registered.ensures ∙ c.if-is_registered.true)
-
-pub returns-then-is_pending : goal.returns-then-is_pending
-unfolding change_refusals cause_number
-returns-then-is_pending c = refused-here (behind-registered (goal.at.returns-then-is_pending c).Else-is_registered) (sym c.is_pending.ensures ∙ c.if-is_pending.true)
+returns-then-holds c =
+    let users = behind-users (goal.at.returns-then-holds c).Else-count-eq0 in
+    let registered = sym c.holds.ensures in
+    elim c.then-holds.branch [
+      | then-holds-via-then-holds w ↦ refused-here users (registered ∙ w.if-holds.true)
+      | then-holds-via-else-holds+then-holds-2 w ↦
+          refused-here (passed_here users (registered ∙ w.if-holds.false)) (sym w.holds-else-holds.ensures ∙ w.if-holds-2.true)
+    ]
 
 pub returns-then-n-ge-PENDING_LIMIT : goal.returns-then-n-ge-PENDING_LIMIT
 unfolding change_refusals cause_number
 returns-then-n-ge-PENDING_LIMIT c =
-    let n = c.pending_count-n.ensures in
-    refused-here (behind-pending (goal.at.returns-then-n-ge-PENDING_LIMIT c).Else-is_pending)
+    let n = c.count-n.ensures in
+    refused-here (behind-tables (goal.at.returns-then-n-ge-PENDING_LIMIT c).Else-holds-2)
     (le-leb pending_limit (length (decode c.args.board.now).pending) (omega arith))
 
 pub add_pending-requires : goal.add_pending-requires
@@ -56,9 +56,9 @@ add_pending-requires c =
 pub returns : goal.returns
 unfolding change_refusals
 returns c =
-    let n = c.pending_count-n.ensures in
+    let n = c.count-n.ensures in
     let a = c.args in
     let b = a.board.now in
-    accepted-here (passed_here (behind-pending (goal.at.returns c).Else-is_pending) (lt-leb pending_limit (length (decode b).pending) (omega arith)))
+    accepted-here (passed_here (behind-tables (goal.at.returns c).Else-holds-2) (lt-leb pending_limit (length (decode b).pending) (omega arith)))
     (c.add_pending.ensures ∙ ap (λ (k : ℕ). pending_added b k a.u a.note.now) n)
     (writes_c_nu_req c.requires.0.encoded a.u a.note.now (omega arith) (omega arith) c.requires.1)

@@ -13,9 +13,9 @@ use Rattle.model.proofs.SoundBoards.{sound-length}
 use Rattle.changes.proofs.ChangeRows.{all_rows, refused-here, passed_here, accepted-here}
 use Rattle.changes.proofs.creations.start_system.Goals as goal
 
-pub returns-then-user_count-ne0 : goal.returns-then-user_count-ne0
+pub returns-then-count-ne0 : goal.returns-then-count-ne0
 unfolding change_refusals cause_number
-returns-then-user_count-ne0 c = refused-here (all_rows _ _) (ap not (ne_eqb _ 0 (λ e. c.if-user_count-ne0.true (c.user_count.ensures ∙ e))))
+returns-then-count-ne0 c = refused-here (all_rows _ _) (ap not (ne_eqb _ 0 (λ e. c.if-count-ne0.true (c.count.ensures ∙ e))))
 
 pub add_user-requires : goal.add_user-requires
 add_user-requires c = (lit< tt, sound-length c.requires)
@@ -26,7 +26,7 @@ returns c =
     let u = c.args.login.user in
     let p = c.args.login.password in
     let b = c.args.board.now in
-    let empty : length (decode b).users ≡ 0 = sym c.user_count.ensures ∙ c.if-user_count-ne0.false in
+    let empty : length (decode b).users ≡ 0 = sym c.count.ensures ∙ c.if-count-ne0.false in
     accepted-here (passed_here (all_rows _ _) (ap not (eq-eqb _ 0 empty)))
     (c.add_user.ensures ∙ ap (λ (n : ℕ). user_added b n u p) (sym empty))
     (writes_start_sys c.requires.encoded u p (omega arith) (omega arith) (omega arith))

@@ -1,40 +1,25 @@
 -- `update_picture` meets its contract: the picture is written at the place of an accepted post.
 use Prim.Native.Nat.{◌^◌, ◌<◌}
 use native.Mathlib.Omega.{arith}
-use lib.ListN.{length}
 use lib.Dec.{lit≤}
-use Rattle.model.specs.State.{post_limit}
-use Rattle.model.specs.Board.{decode}
 use Rattle.model.specs.Refusals.{change_refusals}
 use Rattle.model.proofs.ChangeWrites.{writes_u_img_post}
-use Rattle.changes.proofs.ChangeLaws.{change-refused}
-use Rattle.access.proofs.AcceptedPlaces.{PlaceWithin, post-place-within}
+use Rattle.access.proofs.AcceptedPlaces.{post-place-within}
+use Rattle.changes.proofs.ChangeLaws.{change-handed_up}
 use Rattle.changes.proofs.PostUpdates.{number_updated}
 use Rattle.changes.proofs.updates.update_picture.Goals as goal
-use Rattle.changes.proofs.updates.update_picture.Goals.{Else-number-ne0}
 
-pub returns-then-number-ne0 : goal.returns-then-number-ne0
+pub returns-in_err-place : goal.returns-in_err-place
 unfolding change_refusals
-returns-then-number-ne0 c = change-refused _ _ c.post_refusal-number.ensures c.if-number-ne0.true
+returns-in_err-place c = change-handed_up _ _ _ _ c.from_residual.ensures.1 c.in_err-place.ensures.number
 
-within : (c : Else-number-ne0) → PlaceWithin c.post_place-place.result (length (decode c.args.board.now).posts) post_limit
-within c =
-    post-place-within c.requires _ _ c.if-number-ne0.false _ _ c.post_refusal-number.ensures c.post_place-place.ensures
-
-pub overflow_mul-at : goal.overflow_mul-at
-overflow_mul-at c = omega (arith, within c)
-
-pub overflow_add-at : goal.overflow_add-at
-overflow_add-at c = omega (arith, within c)
-
-pub overflow_add-at-2 : goal.overflow_add-at-2
-overflow_add-at-2 c = omega (arith, within (goal.at.overflow_add-at-2 c).Else-number-ne0)
+pub field_at-at-requires : goal.field_at-at-requires
+field_at-at-requires c = ((post-place-within c.requires _ _ _ _ c.in_ok-place.ensures.number c.in_ok-place.ensures.place).room, lit≤ tt)
 
 pub returns : goal.returns
 unfolding change_refusals
 returns c =
     let bound : c.args.picture < 2 ^ 32 = omega (arith, c.ranges.picture) in
-    number_updated c.requires _ c.post_place-place.ensures (within (goal.at.returns c).Else-number-ne0) _
-    c.post_refusal-number.ensures c.if-number-ne0.false 4 4 _ (lit≤ tt)
-    c.write_u32.ensures
+    number_updated c.requires _ c.in_ok-place.ensures.place (post-place-within c.requires _ _ _ _ c.in_ok-place.ensures.number c.in_ok-place.ensures.place) _ c.in_ok-place.ensures.number 4 c.field_at-at.ensures 4 _ (lit≤ tt)
+    c.write_number.ensures
     (λ h. writes_u_img_post c.requires.encoded _ _ _ h _ bound)

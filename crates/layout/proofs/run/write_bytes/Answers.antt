@@ -1,6 +1,5 @@
 -- `write_bytes` meets its contract: the library's copy into the rest of b from `at` on is the write (`copied`).
 use Prim.Native.Nat.{◌+◌, ◌≤◌}
-use native.Mathlib.Omega.{arith}
 use mathlib.Core.Path.{refl}
 use lib.ListN.{length}
 use Rattle.layout.proofs.RangeLaws.{range_holds}
@@ -19,10 +18,7 @@ inside c =
 pub returns-then-not-within : goal.returns-then-not-within
 returns-then-not-within c = let a = c.args in write-refused a.b.now a.at a.s.now refl c.within.ensures c.if-not-within.true
 
-pub overflow_add-at : goal.overflow_add-at
-overflow_add-at c = let h = inside c in omega arith
-
 pub returns : goal.returns
 returns c =
     let a = c.args in
-    copied a.b.now a.at a.s.now (inside (goal.at.returns c).Else-not-within) c.copy_from_slice.ensures.after
+    copied a.b.now a.at a.s.now refl (inside (goal.at.returns c).Else-not-within) c.copy_from_slice.ensures.after

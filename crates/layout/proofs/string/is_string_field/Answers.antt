@@ -27,25 +27,10 @@ returns-then-not-within c =
     let f = range_fails a.at a.limit (length a.b.now - 2) c.within.ensures c.if-not-within.true in
     field_cut a.b.now a.at a.limit (omega arith)
 
-pub read_u16-n-requires : goal.read_u16-n-requires
-read_u16-n-requires c = let h = inside c in omega arith
-
 pub returns-then-limit-n : goal.returns-then-limit-n
 returns-then-limit-n c =
     let a = c.args in
     field-over a.b.now a.at a.limit c.read_u16-n.result (inside (goal.at.returns-then-limit-n c).Else-not-within) c.read_u16-n.ensures c.if-limit-n.true
-
-pub overflow_add-tail : goal.overflow_add-tail
-overflow_add-tail c = let h = inside (goal.at.overflow_add-tail c).Else-not-within in omega arith
-
-pub overflow_add-tail-2 : goal.overflow_add-tail-2
-overflow_add-tail-2 c = let h = inside (goal.at.overflow_add-tail-2 c).Else-not-within in omega arith
-
-pub overflow_add-end : goal.overflow_add-end
-overflow_add-end c = let h = inside (goal.at.overflow_add-end c).Else-not-within in omega arith
-
-pub overflow_add-end-2 : goal.overflow_add-end-2
-overflow_add-end-2 c = let h = inside (goal.at.overflow_add-end-2 c).Else-not-within in omega arith
 
 -- the bytes behind the string decide
 rest : (c : Else-limit-n) →
@@ -72,14 +57,8 @@ rest-to-end c =
     let e : a.at + 2 + a.limit - (a.at + 2 + n) ≡ a.limit - n = omega arith in
     ap (λ (k : ℕ). all_zero (bytes_at a.b.now (a.at + 2 + n) k)) e ∙ rest c
 
-pub short_zero-requires : goal.short_zero-requires
-short_zero-requires c = let h = inside (goal.at.short_zero-requires c).Else-not-within in omega arith
-
 pub returns-then-limit-le64 : goal.returns-then-limit-le64
 returns-then-limit-le64 c = c.short_zero.ensures ∙ rest-to-end (goal.at.returns-then-limit-le64 c).Else-limit-n
-
-pub words_zero-requires : goal.words_zero-requires
-words_zero-requires c = let h = inside (goal.at.words_zero-requires c).Else-not-within in omega arith
 
 pub returns : goal.returns
 returns c = c.words_zero.ensures ∙ rest-to-end (goal.at.returns c).Else-limit-n

@@ -38,17 +38,8 @@ returns-then-not-within c =
     let f = range_fails a.at a.limit (length a.b.now - 2) c.within.ensures c.if-not-within.true in
     sym (string_beyond a.b.now a.at a.limit a.s.now (allowed (goal.at.returns-then-not-within c).Else-limit-n) (omega arith))
 
-pub overflow_add-at : goal.overflow_add-at
-overflow_add-at c = let h = inside (goal.at.overflow_add-at c).Else-not-within in omega arith
-
-pub overflow_add-at-2 : goal.overflow_add-at-2
-overflow_add-at-2 c = let h = inside (goal.at.overflow_add-at-2 c).Else-not-within in omega arith
-
-pub overflow_add-at-3 : goal.overflow_add-at-3
-overflow_add-at-3 c = let h = inside (goal.at.overflow_add-at-3 c).Else-not-within in omega arith
-
 pub returns : goal.returns
 returns c =
     let a = c.args in
     string-written a.b.now a.at a.limit a.s.now (allowed (goal.at.returns c).Else-limit-n) (inside (goal.at.returns c).Else-not-within)
-    c.write_u16.ensures c.write_bytes.ensures c.zero_fill.ensures
+    c.write_number.ensures c.write_bytes.ensures c.zero_fill.ensures

@@ -19,12 +19,3 @@ returns c =
     bytes-put-within a.out.now a.to (bytes_at b a.at (2 + number_in b a.at 2))
     (ap (λ (n : ℕ). 2 + n) stated ∙ sym (length-bytes_at b a.at (2 + number_in b a.at 2) (omega arith))) (omega arith)
     (c.write_bytes.ensures ∙ ap (write_at a.out.now a.to) (ap (bytes_at b a.at) size))
-
-pub overflow_add-at : goal.overflow_add-at
-overflow_add-at c = omega arith
-
-pub overflow_add-at-2 : goal.overflow_add-at-2
-overflow_add-at-2 c = omega arith
-
-pub slice_bounds-write_bytes-end : goal.slice_bounds-write_bytes-end
-slice_bounds-write_bytes-end c = omega arith

@@ -1,28 +1,29 @@
 -- `list_friends` meets its contract: the numbers of the sender's friends are written, whose bits are set in the sender's friend row.
-use native.Mathlib.Omega.{arith}
-use mathlib.Core.Path.{refl, ap}
-use lib.Dec.{lit≤}
-use Rattle.model.specs.Refusals.{query_refusals}
-use Rattle.model.specs.Answers.{staff_list, answer_body}
-use Rattle.model.proofs.SoundBoards.{sound-length}
-use Rattle.queries.proofs.QueryLaws.{query-refused, query-answered}
+use mathlib.Core.Path.{ap}
+use Rattle.model.specs.State.{User}
+use Rattle.model.specs.Answers.{staff_list, users_in, answer_body}
+use Rattle.model.specs.Board.{decode}
+use Prim.Native.Nat.{ℕ}
 use Rattle.access.proofs.AcceptedPlaces.{sender_slot_within}
-use Rattle.queries.proofs.ListAnswers.{friends_listed}
+use Rattle.access.proofs.RecordReads.{numbered_user}
+use Rattle.queries.proofs.ListAnswers.{friends_below_lem}
+use Rattle.model.specs.Refusals.{query_refusals}
+use Rattle.queries.proofs.QueryLaws.{query-refused, query-answered}
 use Rattle.queries.proofs.listings.list_friends.Goals as goal
 
-pub returns-then-number-ne0 : goal.returns-then-number-ne0
+pub returns-in_err-i : goal.returns-in_err-i
 unfolding query_refusals
-returns-then-number-ne0 c = query-refused _ _ _ _ c.without_body.ensures c.login_refusal-number.ensures c.if-number-ne0.true
+returns-in_err-i c = query-refused _ _ _ _ _ c.in_err-i.ensures.number c.from_residual.ensures.1
 
-pub write_staff_list-len-requires : goal.write_staff_list-len-requires
-write_staff_list-len-requires c =
-    let l = sound-length c.requires.0 in
-    (lit≤ tt, omega arith, omega arith)
+pub write_staff_list-requires : goal.write_staff_list-requires
+write_staff_list-requires c =
+    let sender = c.in_ok-i.ensures in
+    let within = sender_slot_within c.args.board.now.sound _ _ sender.number sender.slot in
+    (friends_below_lem c.args.board.now.sound within.used c.user_friends-row.ensures, c.requires)
 
 pub returns : goal.returns
 unfolding query_refusals answer_body
 returns c =
-    let refusal = c.login_refusal-number.ensures in
-    let within = sender_slot_within c.requires.0 _ _ c.if-number-ne0.false refusal c.user_slot-i.ensures in
-    query-answered _ _ _ _ refl refusal c.if-number-ne0.false c.write_staff_list-len.ensures
-    (ap staff_list (friends_listed c.requires.0 _ within.used c.user_slot-i.ensures c.user_friends-row.ensures))
+    let sender = c.in_ok-i.ensures in
+    query-answered _ _ _ sender.number c.write_staff_list.ensures
+    (ap (λ (row : ℕ). staff_list (users_in (decode c.args.board.now.bytes.now) row)) (numbered_user _ _ (λ (x : User). x.friends) sender.slot c.user_friends-row.ensures))

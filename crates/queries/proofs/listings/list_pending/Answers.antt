@@ -1,50 +1,41 @@
 -- `list_pending` meets its contract: the bits of all pending registrations are set in the row, so the numbers of all are written.
 use native.Mathlib.Omega.{arith}
-use mathlib.Core.Path.{◌≡◌, refl, ap}
-use lib.Dec.{lit≤}
+use mathlib.Core.Path.{ap}
 use Rattle.layout.specs.Search.{index_of}
 use Rattle.model.specs.Lists.{contains}
-use Rattle.model.specs.Board.{decode}
-use Rattle.model.specs.Actions.{l_pending_u_reqs}
-use Rattle.model.specs.Refusals.{first_number, right_of, query_refusals}
+use Rattle.model.specs.Refusals.{right_of, query_refusals}
 use Rattle.model.specs.Answers.{staff_list, answer_body}
-use Rattle.model.proofs.SoundBoards.{sound-length}
-use Rattle.queries.proofs.QueryLaws.{query-refused, query-answered}
+use Rattle.model.proofs.SoundBoards.{pending-limit}
 use Rattle.access.proofs.RefusalLaws.{login-refuses, login-passes, of_kind}
-use Rattle.queries.proofs.ListAnswers.{all_pending}
+use Rattle.access.specs.declared.tables.Table.TheVariants.{Pending}
+use Rattle.queries.proofs.ListAnswers.{all-below, all_pending}
+use Rattle.queries.proofs.QueryLaws.{query-refused, query-answered}
 use Rattle.queries.proofs.listings.list_pending.Goals as goal
-use Rattle.queries.proofs.listings.list_pending.Goals.{After-right_refusal-right_number}
+
+pub returns-in_err-i : goal.returns-in_err-i
+unfolding query_refusals
+returns-in_err-i c = query-refused _ _ _ _ _ (login-refuses _ _ _ _ _ c.in_err-i.ensures.number) c.from_residual.ensures.1
 
 -- the number of the sender's right is that of all rows, where those before it do not apply
-refusal : (c : After-right_refusal-right_number) →
-    let a = c.args in
-    c.right_refusal-right_number.result ≡ first_number (query_refusals (decode a.b.now) (l_pending_u_reqs a.login.user a.login.password))
+pub returns-in_err-check_right : goal.returns-in_err-check_right
 unfolding query_refusals
-refusal c =
-    login-passes _ _ _ _ c.login_refusal-number.ensures c.if-number-ne0.false
-    (of_kind _ _ _ _ _ c.right_refusal-right_number.ensures c.right_of.ensures)
+returns-in_err-check_right c =
+    query-refused _ _ _ _ _
+    (login-passes _ _ _ _ c.in_ok-i.ensures.number (of_kind _ _ _ _ _ c.in_err-check_right.ensures c.right_of.ensures))
+    c.from_residual-in_err-check_right.ensures.1
 
-pub returns-then-number-ne0 : goal.returns-then-number-ne0
-unfolding query_refusals
-returns-then-number-ne0 c =
-    query-refused _ _ _ _ c.without_body.ensures
-    (login-refuses _ _ _ _ c.login_refusal-number.ensures c.if-number-ne0.true) c.if-number-ne0.true
-
-pub right_refusal-right_number-requires : goal.right_refusal-right_number-requires
+pub check_right-requires : goal.check_right-requires
 unfolding right_of contains index_of
-right_refusal-right_number-requires c =
-    (c.requires.0, c.user_slot-i.ensures, rw c.right_of.ensures tt)
+check_right-requires c = (c.in_ok-i.ensures.slot, rw c.right_of.ensures tt)
 
-pub returns-then-right_number-ne0 : goal.returns-then-right_number-ne0
-returns-then-right_number-ne0 c = query-refused _ _ _ _ c.without_body-then-right_number-ne0.ensures (refusal (goal.at.returns-then-right_number-ne0 c).After-right_refusal-right_number) c.if-right_number-ne0.true
-
-pub write_staff_list-len-requires : goal.write_staff_list-len-requires
-write_staff_list-len-requires c =
-    let l = sound-length c.requires.0 in
-    (lit≤ tt, omega arith, omega arith)
+pub write_staff_list-requires : goal.write_staff_list-requires
+write_staff_list-requires c =
+    let l = pending-limit c.args.board.now.sound in
+    (all-below c.args.board.now.sound Pending (omega arith) c.count.ensures c.low_bits-all.ensures, c.requires)
 
 pub returns : goal.returns
-unfolding answer_body
+unfolding query_refusals answer_body
 returns c =
-    query-answered _ _ _ _ refl (refusal (goal.at.returns c).After-right_refusal-right_number) c.if-right_number-ne0.false c.write_staff_list-len.ensures
-    (ap staff_list (all_pending c.requires.0 c.pending_count.ensures c.low_bits-row.ensures))
+    query-answered _ _ _ (login-passes _ _ _ _ c.in_ok-i.ensures.number (of_kind _ _ _ _ _ c.in_ok-check_right.ensures c.right_of.ensures))
+    c.write_staff_list.ensures
+    (ap staff_list (all_pending c.args.board.now.sound c.low_bits-all.ensures c.count.ensures))

@@ -5,11 +5,10 @@ use Rattle.model.specs.Answers.{answer_body}
 use Rattle.queries.proofs.QueryLaws.{query-refused, query-answered}
 use Rattle.queries.proofs.listings.list_posts.Goals as goal
 
-pub returns-then-number-ne0 : goal.returns-then-number-ne0
+pub returns-in_err-log_in : goal.returns-in_err-log_in
 unfolding query_refusals
-returns-then-number-ne0 c = query-refused _ _ _ _ c.without_body.ensures c.login_refusal-number.ensures c.if-number-ne0.true
+returns-in_err-log_in c = query-refused _ _ _ _ _ c.in_err-log_in.ensures.number c.from_residual.ensures.1
 
 pub returns : goal.returns
 unfolding query_refusals answer_body
-returns c =
-    query-answered _ _ _ _ refl c.login_refusal-number.ensures c.if-number-ne0.false c.write_post_list-len.ensures refl
+returns c = query-answered _ _ _ c.in_ok-log_in.ensures.number c.write_post_list.ensures refl

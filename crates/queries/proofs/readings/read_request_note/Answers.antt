@@ -1,6 +1,6 @@
 -- `read_request_note` meets its contract: the string copied is the note at the place for the two slots.
 use native.Mathlib.Omega.{arith}
-use mathlib.Core.Path.{refl}
+use Rattle.access.specs.declared.refusals.Refusal.TheVariants.{Missing}
 use mathlib.Core.List.{[]}
 use Rattle.reader.specs.Fields.{note_limit}
 use Rattle.model.specs.State.{note_at}
@@ -16,21 +16,20 @@ use Rattle.queries.proofs.readings.read_request_note.Goals.{After-note_at}
 pub returns-then-not-has_requested : goal.returns-then-not-has_requested
 unfolding cause_number
 returns-then-not-has_requested c =
-    reply-refused _ _ _ _ c.without_body.ensures (test_refuses request_missing [] c.has_requested.ensures c.if-not-has_requested.true)
-    (λ z. omega arith)
+    reply-refused _ _ _ Missing (test_refuses request_missing [] c.has_requested.ensures c.if-not-has_requested.true)
 
 -- the note for the two slots stands there
 held : (c : After-note_at)
     → let a = c.args in
-    StringHeld a.b.now c.note_at.result note_limit (note_at (decode a.b.now) a.i a.j)
+    StringHeld a.board.now.bytes.now c.note_at.result note_limit (note_at (decode a.board.now.bytes.now) a.i a.j)
 held c =
-    let w = c.requires in
-    note-held w.0 w.2 w.3 c.note_at.ensures
+    let slots = c.requires in
+    note-held c.args.board.now.sound slots.0 slots.1 c.note_at.ensures
 
-pub copy_string-len-requires : goal.copy_string-len-requires
-copy_string-len-requires c = let h = held (goal.at.copy_string-len-requires c).After-note_at in (h.inside, omega arith)
+pub copy_string-requires : goal.copy_string-requires
+copy_string-requires c = let h = held (goal.at.copy_string-requires c).After-note_at in (h.inside, omega arith)
 
 pub returns : goal.returns
 returns c =
-    reply-answered _ _ _ _ refl (test_passes request_missing [] c.has_requested.ensures c.if-not-has_requested.false none_refuse) refl
-    c.copy_string-len.ensures (held (goal.at.returns c).After-note_at).content
+    reply-answered _ _ _ (test_passes request_missing [] c.has_requested.ensures c.if-not-has_requested.false none_refuse)
+    c.copy_string.ensures (held (goal.at.returns c).After-note_at).content

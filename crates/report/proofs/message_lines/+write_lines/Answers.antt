@@ -1,81 +1,85 @@
 -- The goals of `write_lines`: where messages, frame and answer are there, their line comes before the lines of the rest.
-use Prim.Native.Nat.{ℕ, ◌+◌, ◌≤◌}
+use Prim.Native.Nat.{ℕ, ◌+◌, ◌-◌, ◌≤◌}
 use native.Mathlib.Omega.{arith}
 use mathlib.Core.Path.{◌≡◌, sym, ◌∙◌}
 use mathlib.Core.List.{List}
-use lib.ListN.{length}
-use Rattle.layout.specs.Bytes.{bytes_written, put_bytes}
-use Rattle.layout.proofs.WrittenLaws.{put_count}
+use lib.ListN.{length, take, drop}
 use Rattle.reader.specs.Frames.{frame_length_up_to}
-use Rattle.reader.proofs.FrameLaws.{frame_at, found-inside}
-use Rattle.report.specs.MessageLines.{lines_in}
-use Rattle.report.proofs.MessageLineLaws.{line-size, lines_short, none_left, no_frame_lem, no_answer, line_in_front}
+use Rattle.reader.proofs.FrameLaws.{found_none, found_is, found_some, frame_at, found-inside}
+use Rattle.report.specs.Report.{message_line}
+use Rattle.report.specs.Texts.{Writes}
+use Rattle.report.proofs.TextLaws.{Writes-nothing, Writes-append}
+use Rattle.report.proofs.MessageLineLaws.{line-short, lines_short, lines_none, lines_no_frame, lines_no_answer, line_in_front}
 use Rattle.report.proofs.message_lines.+write_lines.Goals as goal
-use Rattle.report.proofs.message_lines.+write_lines.Goals.{After-write_lines-rest}
+use Rattle.report.proofs.message_lines.+write_lines.Goals.{After-message}
 
 -- an answer that was found lies within the answers
-answer-in : (answers : List ℕ) {size : ℕ} (most : ℕ) → size ≡ frame_length_up_to most answers → (size ≡ 0 → ⊥) → (4 ≤ size) × (size ≤ length answers)
+answer-in : (answers : List ℕ) {size : ℕ} (most : ℕ) → size ≡ frame_length_up_to most answers → (size ≡ 0 → ⊥)
+    → (4 ≤ size) × (size ≤ most + 2) × (size ≤ length answers)
 answer-in answers most e n =
     let w = frame_at {most = most} answers (λ z. n (e ∙ z)) in
-    let s = w.stated in
-    (omega arith, omega arith)
+    (omega (arith, w.stated, w.least), omega (arith, w.stated, w.greatest), omega (arith, w.stated, w.inside))
 
 pub returns-then-messages-eq0 : goal.returns-then-messages-eq0
-returns-then-messages-eq0 t c = none_left _ _ _ _ _ c.if-messages-eq0.true
+returns-then-messages-eq0 t c = rw (lines_none _ _ _ c.if-messages-eq0.true) (Writes-nothing _)
 
-pub returns-then-size-eq0 : goal.returns-then-size-eq0
-returns-then-size-eq0 t c = no_frame_lem _ _ _ _ _ (sym c.frame_length-size.ensures ∙ c.if-size-eq0.true)
+pub returns-in_default : goal.returns-in_default
+returns-in_default t c = rw (lines_no_frame _ _ _ (found_none (sym c.in_default.is ∙ c.frame_length.ensures))) (Writes-nothing _)
 
-pub returns-then-answer_size-eq0 : goal.returns-then-answer_size-eq0
-returns-then-answer_size-eq0 t c =
-    no_answer _ _ _ _ _ (λ z. c.if-size-eq0.false (c.frame_length-size.ensures ∙ z))
-    (sym c.frame_length_up_to-answer_size.ensures ∙ c.if-answer_size-eq0.true)
+pub returns-in_default-frame_length_up_to : goal.returns-in_default-frame_length_up_to
+returns-in_default-frame_length_up_to t c =
+    rw (lines_no_answer _ _ _ (λ z. found_some _ c.in-Some.ensures (found_is c.in-Some.ensures ∙ z))
+    (found_none (sym c.in_default-frame_length_up_to.is ∙ c.frame_length_up_to.ensures))) (Writes-nothing _)
 
 pub overflow_sub-answer_size : goal.overflow_sub-answer_size
 overflow_sub-answer_size t c =
-    (answer-in c.args.answers.now _ c.frame_length_up_to-answer_size.ensures c.if-answer_size-eq0.false).0
+    omega (arith, (answer-in c.args.answers.now _ (found_is c.in-Some-frame_length_up_to.ensures) (found_some _ c.in-Some-frame_length_up_to.ensures)).0)
+
+pub message-requires-clause-range : goal.message-requires-clause-range
+message-requires-clause-range t c =
+    omega (arith, (answer-in c.args.answers.now _ (found_is c.in-Some-frame_length_up_to.ensures) (found_some _ c.in-Some-frame_length_up_to.ensures)).1)
 
 -- the parts lent on
 pub slice_bounds-write_lines-count : goal.slice_bounds-write_lines-count
-slice_bounds-write_lines-count t c = found-inside c.args.journal.now c.frame_length-size.ensures
+slice_bounds-write_lines-count t c = found-inside c.args.journal.now (found_is c.in-Some.ensures)
 
 pub slice_bounds-write_lines-start : goal.slice_bounds-write_lines-start
-slice_bounds-write_lines-start t c = found-inside c.args.journal.now c.frame_length-size.ensures
+slice_bounds-write_lines-start t c = found-inside c.args.journal.now (found_is c.in-Some.ensures)
 
 pub slice_bounds-write_lines-count-2 : goal.slice_bounds-write_lines-count-2
 slice_bounds-write_lines-count-2 t c =
-    (answer-in c.args.answers.now _ c.frame_length_up_to-answer_size.ensures c.if-answer_size-eq0.false).1
+    (answer-in c.args.answers.now _ (found_is c.in-Some-frame_length_up_to.ensures) (found_some _ c.in-Some-frame_length_up_to.ensures)).2
 
 pub slice_bounds-write_lines-start-2 : goal.slice_bounds-write_lines-start-2
 slice_bounds-write_lines-start-2 t c =
-    (answer-in c.args.answers.now _ c.frame_length_up_to-answer_size.ensures c.if-answer_size-eq0.false).1
+    (answer-in c.args.answers.now _ (found_is c.in-Some-frame_length_up_to.ensures) (found_some _ c.in-Some-frame_length_up_to.ensures)).2
 
--- a line has at most fourteen bytes
-pub overflow_add-at : goal.overflow_add-at
-overflow_add-at t c =
-    omega (arith, line-size _ _ _ _ _ c.write_message-written.ensures, c.requires, c.if-messages-eq0.false, c.well_formed.1.1.1.0.0)
+-- a line, of at most fourteen bytes
+abbrev line : {t : ℕ} → After-message t → List ℕ
+line c = message_line c.kind.result c.kind-2.result (c.in-Some-frame_length_up_to.answer_size - 4)
 
-pub write_lines-rest-requires : goal.write_lines-rest-requires
-write_lines-rest-requires t c =
-    let l = line-size _ _ _ _ _ c.write_message-written.ensures in
-    let kept = c.write_message-written.auto in
-    (omega (arith, c.decreases, c.if-messages-eq0.false), omega (arith, c.requires, c.if-messages-eq0.false))
+line_written : {t : ℕ} (c : After-message t) → Writes c.args.writer.now (line c) c.message.new.self
+line_written c = c.message.ensures
+
+short : {t : ℕ} (c : After-message t) → length (line c) ≤ 14
+short c = line-short c.kind.result c.kind-2.result (c.in-Some-frame_length_up_to.answer_size - 4)
+
+pub write_lines-requires : goal.write_lines-requires
+write_lines-requires t c =
+    let p = (goal.at.write_lines-requires t c).After-message in
+    let w = line_written p in
+    (omega (arith, c.decreases, c.if-messages-eq0.false), omega (arith, c.requires, c.if-messages-eq0.false, w.size, w.kept, short p))
 
 -- a line, and the lines of the rest
-all-written : {t : ℕ} (c : After-write_lines-rest t) →
-    let a = c.args in
-    bytes_written (c.write_message-written.result + c.write_lines-rest.result) c.write_lines-rest.new.text
-    ≡ put_bytes a.text.now a.at (lines_in a.messages a.journal.now a.answers.now)
-all-written c =
-    line_in_front _ _ _ c.args.journal.now c.args.answers.now c.frame_length-size.ensures c.frame_length_up_to-answer_size.ensures
-    c.if-messages-eq0.false c.if-size-eq0.false c.if-answer_size-eq0.false c.requires c.kind.ensures c.kind-2.ensures
-    c.write_message-written.ensures c.write_lines-rest.ensures
-
-pub overflow_add-result : goal.overflow_add-result
-overflow_add-result t c =
-    let a = c.args in
-    let s = put_count _ _ _ (all-written (goal.at.overflow_add-result t c).After-write_lines-rest) in
-    omega (arith, lines_short a.messages a.journal.now a.answers.now, c.requires, c.well_formed.1.1.1.0.0)
-
 pub returns : goal.returns
-returns t c = all-written (goal.at.returns t c).After-write_lines-rest
+returns t c =
+    let a = c.args in
+    let p = (goal.at.returns t c).After-message in
+    let size = c.in-Some.size in
+    let answer_size = c.in-Some-frame_length_up_to.answer_size in
+    let more = lines_short (a.messages - 1) (take (length a.journal.now - size) (drop size a.journal.now))
+    (take (length a.answers.now - answer_size) (drop answer_size a.answers.now))
+    in
+    rw (← line_in_front a.messages a.journal.now a.answers.now (found_is c.in-Some.ensures) (found_is c.in-Some-frame_length_up_to.ensures)
+    c.if-messages-eq0.false (found_some _ c.in-Some.ensures) (found_some _ c.in-Some-frame_length_up_to.ensures) c.kind.ensures c.kind-2.ensures)
+    (Writes-append (line_written p) c.write_lines.ensures (omega (arith, short p, more, c.requires, c.if-messages-eq0.false)))

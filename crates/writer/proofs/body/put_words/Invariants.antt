@@ -1,17 +1,8 @@
 -- `put_words` meets its contract. The loop's invariant (`Filling`): what is left to write makes the words whole.
-use Prim.Native.Nat.{ℕ, ◌-◌}
-use mathlib.Core.List.{List}
-use Rattle.reader.specs.Fields.{FieldType}
-use Rattle.reader.specs.Kinds.{kind_fields}
-use Rattle.writer.specs.Words.{listed_fields}
+use mathlib.Core.List.{map}
+use Rattle.writer.specs.Table.{field_type}
 use Rattle.writer.proofs.ReadLaws.{Filling}
 use Rattle.writer.proofs.body.put_words.Given as goal
 
-abbrev pub fields_of : ℕ → List FieldType
-fields_of kind = listed_fields (kind_fields kind)
-
-abbrev pub invariant-loop-index : goal.invariant-loop-index
-invariant-loop-index l = Filling (fields_of l.kind) l.body l.initial.values l.values l.at l.word l.index
-
-abbrev pub decreases-loop-index : goal.decreases-loop-index
-decreases-loop-index l = l.count - l.index
+abbrev pub invariant-loop-field : goal.invariant-loop-field
+invariant-loop-field l = Filling (map field_type l.fields) l.body l.initial.values l.values l.place.at l.place.words l.field-index

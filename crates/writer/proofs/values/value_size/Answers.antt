@@ -1,47 +1,31 @@
--- `value_size` meets its contract: the width of a number, and the length of a string with the two bytes that state it.
-use Prim.Native.Nat.{ℕ, ◌+◌, ◌≤◌}
-use native.Mathlib.Omega.{arith}
-use mathlib.Core.Path.{◌≡◌, sym, ap, ◌∙◌, subst}
+-- `value_size` meets its contract: each field has the size of a number of its width and bounds, or of a string.
+use Prim.Native.Nat.{ℕ}
+use mathlib.Core.Path.{sym, ap, ◌∙◌}
 use mathlib.Core.List.{List}
-use lib.ListN.{length, drop}
-use Rattle.writer.specs.Table.{field_type, words_size}
-use Rattle.writer.specs.Words.{word_count}
+use Rattle.std.specs.Prelude.{Option}
+use Rattle.std.specs.Bool.{then_some}
+use Rattle.writer.specs.Table.{field_type, words_fit, words_size}
 use Rattle.writer.specs.declared.table.Field.{Field}
-use Rattle.writer.proofs.ValueLaws.{second_word, words_inside}
 use Rattle.writer.proofs.values.value_size.Goals as goal
-use Rattle.writer.proofs.values.value_size.Goals.{After-word_at, In-String, Start}
 
-abbrev values : Start → List ℕ
-values c = drop c.args.word c.args.values.now
+abbrev size_of : List ℕ → List ℕ → Field → Option ℕ
+size_of lent ws f = then_some (words_fit lent (field_type f) ws) (words_size (field_type f) ws)
 
-size_of : (c : Start) {f : Field} → c.args.field ≡ f → words_size (field_type f) (values c) ≡ words_size (field_type c.args.field) (values c)
-size_of c e = ap (λ (f : Field). words_size (field_type f) (values c)) (sym e)
-
--- the second word of a string is there
-two : (c : In-String) → let a = c.args in a.word + 2 ≤ length a.values.now
-unfolding word_count
-two c =
-    let a = c.args in
-    subst (λ (f : Field). a.word + word_count (field_type f) ≤ length a.values.now) c.in-String.is
-    (words_inside a.values.now a.word (field_type a.field) c.requires.0)
-
-pub overflow_add-word : goal.overflow_add-word
-overflow_add-word c = let h = two c in omega arith
-
-pub word_at-requires : goal.word_at-requires
-word_at-requires c = let h = two c in omega arith
-
-string-size : (c : After-word_at) → 2 + c.word_at.result ≡ words_size (field_type c.args.field) (values (goal.at.After-word_at c).Start)
+pub returns-in-StaffNumber : goal.returns-in-StaffNumber
 unfolding words_size
-string-size c =
-    ap (λ (n : ℕ). 2 + n) (c.word_at.ensures ∙ sym (second_word c.args.values.now c.args.word)) ∙ size_of (goal.at.After-word_at c).Start c.in-String.is
+returns-in-StaffNumber c = c.number_size.ensures c.args.lent.now ∙ ap (size_of c.args.lent.now c.args.words.now) (sym c.in-StaffNumber.is)
 
-pub overflow_add-result : goal.overflow_add-result
-overflow_add-result c = let h = c.requires.1 in omega (arith, string-size c, h)
-
-pub returns-in-Number : goal.returns-in-Number
+pub returns-in-Password : goal.returns-in-Password
 unfolding words_size
-returns-in-Number c = size_of (goal.at.returns-in-Number c).Start c.in-Number.is
+returns-in-Password c = c.number_size-in-Password.ensures c.args.lent.now ∙ ap (size_of c.args.lent.now c.args.words.now) (sym c.in-Password.is)
 
-pub returns-in-String : goal.returns-in-String
-returns-in-String c = string-size c
+pub returns-in-Picture : goal.returns-in-Picture
+unfolding words_size
+returns-in-Picture c = c.number_size-in-Picture.ensures c.args.lent.now ∙ ap (size_of c.args.lent.now c.args.words.now) (sym c.in-Picture.is)
+
+pub returns-in-Visibility : goal.returns-in-Visibility
+unfolding words_size
+returns-in-Visibility c = c.number_size-in-Visibility.ensures c.args.lent.now ∙ ap (size_of c.args.lent.now c.args.words.now) (sym c.in-Visibility.is)
+
+pub returns-in-Text : goal.returns-in-Text
+returns-in-Text c = c.string_size.ensures ∙ ap (size_of c.args.lent.now c.args.words.now) (sym c.in-Text.is)
