@@ -1,4 +1,7 @@
 // What is printed for a journal: a line for each message, or for each answer.
+ghost use Rattle.std.specs.Prelude.{◌≤◌, length};
+ghost use Rattle.journal_io.specs.Results.{HasRead, size_read, reading};
+
 use board::BOARD_SIZE;
 use journal_io::{PrintError, WriteError, print_journal, print_text, read_journal};
 use replay::replay;
@@ -11,15 +14,17 @@ const LINES_SIZE: usize = 3 * ANSWERS_SIZE;
 
 // A trait and no closure: a function that calls one has to require that it may be called.
 pub trait Form {
-    // Reads a journal and prints what is printed for it, or nothing where it could not be read whole; what failed is said on standard error. An error
-    // where a write failed, and then nothing more is written.
+    // Reads a journal and prints what is printed for it, or nothing where it could not be read whole; what failed is said on standard error. It gives
+    // how many bytes were read.
     fn print<R: Read>(
         &self,
         rt: &(impl Print + Eprint),
         reader: &mut R,
         journal: &mut [u8],
         text: &mut [u8],
-    ) -> Result<(), WriteError>;
+    ) -> Result<usize, PrintError>
+        ensures in_bounds { size_read (reading result) ≤ length journal.new }
+        ensures bytes { HasRead (reading result) (R.remaining reader.old) (R.remaining reader.new) journal.new };
 }
 
 // A line for each message.
@@ -32,11 +37,8 @@ impl Form for Lines {
         reader: &mut R,
         journal: &mut [u8],
         text: &mut [u8],
-    ) -> Result<(), WriteError> {
-        match print_journal(rt, reader, journal, text) {
-            Ok(_) | Err(PrintError::Unread) => Ok(()),
-            Err(PrintError::Unwritten(_)) => Err(WriteError),
-        }
+    ) -> Result<usize, PrintError> {
+        print_journal(rt, reader, journal, text)
     }
 }
 
@@ -50,16 +52,19 @@ impl Form for Answers {
         reader: &mut R,
         journal: &mut [u8],
         _text: &mut [u8],
-    ) -> Result<(), WriteError> {
-        let Ok(size) = read_journal(rt, reader, journal) else {
-            return Ok(());
-        };
-        if JOURNAL_LIMIT < size {
-            rt.write_all(b"long\n")?;
-            return Ok(());
-        }
-        print_parts(rt, &journal[..size])
+    ) -> Result<usize, PrintError> {
+        let size = read_journal(rt, reader, journal)?;
+        print_answers(rt, &journal[..size]).map_err(|_| PrintError::Unwritten(size))?;
+        Ok(size)
     }
+}
+
+fn print_answers(rt: &(impl Print + Eprint), journal: &[u8]) -> Result<(), WriteError> {
+    if JOURNAL_LIMIT < journal.len() {
+        rt.write_all(b"long\n")?;
+        return Ok(());
+    }
+    print_parts(rt, journal)
 }
 
 // The lines of the answers to a journal's messages from the empty board, for as many at a time as the answer buffer has room for.

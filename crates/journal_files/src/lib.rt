@@ -4,7 +4,7 @@
 mod form;
 
 pub use crate::form::{Answers, Form, Lines};
-use journal_io::{JOURNAL_SIZE, WriteError};
+use journal_io::{JOURNAL_SIZE, PrintError, WriteError};
 use report::REPORT_LIMIT;
 use std::env::{Env, FillError};
 use std::rt::Files;
@@ -30,7 +30,11 @@ fn print_file(
         return Ok(());
     };
     match fs::open(rt, path) {
-        Ok(mut file) => form.print(rt, &mut file, journal, text),
+        Ok(mut file) => match form.print(rt, &mut file, journal, text) {
+            // of a journal that could not be read the form has said so
+            Ok(_) | Err(PrintError::Unread) => Ok(()),
+            Err(PrintError::Unwritten(_)) => Err(WriteError),
+        },
         Err(error) => {
             let _ = eprintln!(rt; "{path}: {error}");
             Ok(())
