@@ -8,7 +8,7 @@
    null, even at length 0, and as many bytes or values as the length says can be read from it on, and written where it is not const. No buffer
    that a call writes overlaps with another of its buffers.
    Threads: the kernel has no state of its own. Calls may run at the same time as long as no buffer that one of them writes is lent to another.
-   Stack: staff_board_replay nests a call for each message, which takes 144 bytes of stack, 2.2 MB for 15,000 messages. For threads with a small stack there is
+   Stack: staff_board_replay nests a call for each message, which takes 128 bytes of stack, 2 MB for 15,000 messages. For threads with a small stack there is
     staff_board_replay_in_parts, below, which takes less than 1 MB whatever the journal. */
 #ifndef STAFF_BOARD_H
 #define STAFF_BOARD_H

@@ -28,6 +28,7 @@ pub trait Form {
 }
 
 // A line for each message.
+#[derive(Clone, Copy)]
 pub struct Lines;
 
 impl Form for Lines {
@@ -43,6 +44,7 @@ impl Form for Lines {
 }
 
 // A line for each answer, or `long` where the journal has more bytes than one may have.
+#[derive(Clone, Copy)]
 pub struct Answers;
 
 impl Form for Answers {

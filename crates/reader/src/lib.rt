@@ -123,15 +123,17 @@ fn read_message(msg: &[u8]) -> Result<Message, Refusal>
     }
     let kind = kind(msg);
     let body = body(msg);
-    match kind {
-        0x0101 => start_action(body).ok_or(Refusal::Body),
-        0x0201..=0x0205 => creation_action(kind, body).ok_or(Refusal::Body),
-        0x0301 => deletion_action(body).ok_or(Refusal::Body),
-        0x0401..=0x0405 => update_action(kind, body).ok_or(Refusal::Body),
-        0x0501..=0x050a => reading_action(kind, body).ok_or(Refusal::Body),
-        0x0601..=0x0606 => listing_action(kind, body).ok_or(Refusal::Body),
-        _ => Err(Refusal::Kind),
-    }
+    // one place for what the reader of any family gives: with a refusal made in each arm the compiler keeps a place for each
+    let message = match kind {
+        0x0101 => start_action(body),
+        0x0201..=0x0205 => creation_action(kind, body),
+        0x0301 => deletion_action(body),
+        0x0401..=0x0405 => update_action(kind, body),
+        0x0501..=0x050a => reading_action(kind, body),
+        0x0601..=0x0606 => listing_action(kind, body),
+        _ => return Err(Refusal::Kind),
+    };
+    message.ok_or(Refusal::Body)
 }
 
 // The same as one of the cases of the enum, of which the refusal is one.

@@ -19,17 +19,15 @@ use Rattle.model.specs.Step.{answer_limit, StepResult, step_of}
 use Rattle.model.specs.Replay.{stopped, continued, replay_in, replay_of}
 use Rattle.model.proofs.StepTheorems.{step_lengths}
 use Rattle.model.proofs.ReplayTheorems.{unsound_replay}
-use Rattle.step.specs.Results.{stepped}
-use Rattle.step.specs.declared.Answer.{Answer}
 use Rattle.replay.specs.Results.{stop_number, replayed}
-use Rattle.replay.specs.RestResults.{none_done, Replays}
+use Rattle.replay.specs.RestResults.{none_done, Leaves, Replays}
 use Rattle.replay.specs.declared.Replayed.{Replayed}
 use Rattle.replay.specs.declared.Stop.{Stop}
 use Rattle.replay.specs.declared.Stop.TheVariants.{JournalUsed, BoardUnsound, BufferShort, FrameCut}
 
 -- what a step has written lies within the buffer that it left
-pub answer-inside : (m b o : List ℕ) → are_bytes b ≡ true → (a : Answer) (b₁ o₁ : List ℕ) → stepped a b₁ o₁ ≡ step_of m b o → a.written ≤ length o₁
-answer-inside m b o y a b₁ o₁ e =
+pub answer-inside : (m b o : List ℕ) → are_bytes b ≡ true → (w : ℕ) (b₁ o₁ : List ℕ) → Leaves (step_of m b o) w b₁ o₁ → w ≤ length o₁
+answer-inside m b o y w b₁ o₁ e =
     let l = step_lengths m b o y in
     omega (arith, ap (λ (x : StepResult). x.written) e, ap (λ (x : StepResult). length x.buffer) e)
 
@@ -66,41 +64,44 @@ module _ (j b o : List ℕ) where
       by_count zero h = absurd (eqb-false (length j) 0 n (omega arith))
       by_count (suc count) h = rw n (rw (le-ltb (length o) answer_limit l) (rw (eq-eqb (frame_length j) 0 z) refl))
 
-  -- a message was done: a is its answer, b₁ and o₁ what it left, and r, b₂ and o₂ what the rest came to
-  module _ (y : are_bytes b ≡ true) (n : ℕ) (a : Answer) (b₁ o₁ : List ℕ) (r : Replayed) (b₂ o₂ : List ℕ)
+  -- a message was done: w is its answer's size, b₁ and o₁ what it left, and r, b₂ and o₂ what the rest came to
+  module _ (y : are_bytes b ≡ true) (n w : ℕ) (b₁ o₁ : List ℕ) (r : Replayed) (b₂ o₂ : List ℕ)
       (more : eqb (length j) 0 ≡ false)
       (room : answer_limit ≤ length o)
       (is : n ≡ frame_length j)
       (whole : n ≡ 0 → ⊥)
-      (done : stepped a b₁ o₁ ≡ step_of (take n j) b o)
-      (rest : Replays (take (length j - n) (drop n j)) b₁ (take (length o₁ - a.written) (drop a.written o₁)) r b₂ o₂) where
+      (done : Leaves (step_of (take n j) b o) w b₁ o₁)
+      (rest : Replays (take (length j - n) (drop n j)) b₁ (take (length o₁ - w) (drop w o₁)) r b₂ o₂) where
     abbrev joined : Replayed
-    joined = record { stop = r.stop; messages = 1 + r.messages; passed = n + r.passed; written = a.written + r.written }
+    joined = record { stop = r.stop; messages = 1 + r.messages; passed = n + r.passed; written = w + r.written }
 
-    inside : a.written ≤ length o₁
-    inside = answer-inside (take n j) b o y a b₁ o₁ done
+    abbrev left : StepResult
+    left = record { number = (step_of (take n j) b o).number; written = w; board = b₁; buffer = o₁ }
+
+    inside : w ≤ length o₁
+    inside = answer-inside (take n j) b o y w b₁ o₁ done
 
     same_length : length o₁ ≡ length o
-    same_length = ap (λ (x : StepResult). length x.buffer) done ∙ (step_lengths (take n j) b o y).buffer
+    same_length = sym (ap (λ (x : StepResult). length x.buffer) done) ∙ (step_lengths (take n j) b o y).buffer
 
-    behind : Replays (drop n j) b₁ (drop a.written o₁) r b₂ o₂
-    behind = rw (← part_to_end j n, ← part_to_end o₁ a.written) rest
+    behind : Replays (drop n j) b₁ (drop w o₁) r b₂ o₂
+    behind = rw (← part_to_end j n, ← part_to_end o₁ w) rest
 
-    by_count : (count : ℕ) → length j ≤ count → replayed joined b₂ (put_mid a.written (length o₁ - a.written) o₁ o₂) ≡ replay_in count j b o
+    by_count : (count : ℕ) → length j ≤ count → replayed joined b₂ (put_mid w (length o₁ - w) o₁ o₂) ≡ replay_in count j b o
     unfolding replay_in continued
     by_count zero h = absurd (eqb-false (length j) 0 more (omega arith))
     by_count (suc count) h =
-        simp (more, le-ltb _ _ room, ← is, ne_eqb _ _ whole, ← done, put_rest o₁ a.written o₂ inside)
-        (ap (continued n (stepped a b₁ o₁)) (behind.same count (omega (arith, length-drop n j))))
+        simp (more, le-ltb _ _ room, ← is, ne_eqb _ _ whole, done, put_rest o₁ w o₂ inside)
+        (ap (continued n left) (behind.same count (omega (arith, length-drop n j))))
 
-    pub message-done : Replays j b o joined b₂ (put_mid a.written (length o₁ - a.written) o₁ o₂)
+    pub message-done : Replays j b o joined b₂ (put_mid w (length o₁ - w) o₁ o₂)
     message-done =
         let l = frame-inside j in
         let s = same_length in record {
           same = by_count;
           messages = omega (arith, behind.messages, length-drop n j);
           passed = omega (arith, behind.passed, length-drop n j);
-          written = omega (arith, behind.written, length-drop a.written o₁, inside);
+          written = omega (arith, behind.written, length-drop w o₁, inside);
         }
 
 -- ---- the whole replay

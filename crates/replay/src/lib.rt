@@ -1,11 +1,12 @@
 // The replay: a journal on a board.
 #![tactic(auto)]
 
-ghost use Rattle.std.specs.Prelude.{◌≡◌, true};
+ghost use Rattle.std.specs.Prelude.{◌≡◌, true, ◌≤◌, length};
 ghost use Rattle.model.specs.Soundness.{is_sound};
+ghost use Rattle.model.specs.Step.{answer_limit, step_of};
 ghost use Rattle.model.specs.Replay.{replay_of};
 ghost use Rattle.replay.specs.Results.{stop_number, replayed};
-ghost use Rattle.replay.specs.RestResults.{none_done, Replays};
+ghost use Rattle.replay.specs.RestResults.{none_done, Leaves, Replays};
 
 use board::sound;
 use reader::frame::frame_length;
@@ -49,6 +50,16 @@ fn stopped(stop: Stop) -> Replayed
     }
 }
 
+// The step of one message, and how many bytes its answer has. It is kept out of `replay_rest`, which nests a call for each message: inlined there, the
+// locals of the step and what it returns would take stack for each.
+#[inline(never)]
+fn answer_size(msg: &[u8], board: &mut [u8], out: &mut [u8]) -> usize
+    requires { (is_sound board.old ≡ true) × (answer_limit ≤ length out.old) }
+    ensures { Leaves (step_of msg.now board.old out.old) result board.new out.new }
+{
+    step_sound(msg, board, out).written
+}
+
 // The replay of the rest of a journal. The board is sound, and each message leaves it so: it is not tested again.
 fn replay_rest(journal: &[u8], board: &mut [u8], out: &mut [u8]) -> Replayed
     requires { is_sound board.old ≡ true }
@@ -63,13 +74,13 @@ fn replay_rest(journal: &[u8], board: &mut [u8], out: &mut [u8]) -> Replayed
     let Some(size) = frame_length(journal) else {
         return stopped(Stop::FrameCut);
     };
-    let answer = step_sound(&journal[..size], board, out);
-    let rest = replay_rest(&journal[size..], board, &mut out[answer.written..]);
+    let written = answer_size(&journal[..size], board, out);
+    let rest = replay_rest(&journal[size..], board, &mut out[written..]);
     Replayed {
         stop: rest.stop,
         messages: 1 + rest.messages,
         passed: size + rest.passed,
-        written: answer.written + rest.written,
+        written: written + rest.written,
     }
 }
 

@@ -16,7 +16,7 @@ use Rattle.reader.specs.declared.Refusal.TheVariants.{Kind, Body}
 use Rattle.reader.proofs.KindLaws.{NoneIs, entries_between, unknown_kind_lem}
 use Rattle.reader.proofs.MessageLaws.{bad_frame, family-content, message-content, unknown_content}
 use Rattle.reader.proofs.read_message.Goals as goal
-use Rattle.reader.proofs.read_message.Goals.{After-body-body}
+use Rattle.reader.proofs.read_message.Goals.{After-body-body, After-ok_or, in-257, in-769, in-513-to-517, in-1025-to-1029, in-1281-to-1290, in-1537-to-1542}
 
 abbrev message : After-body-body → List ℕ
 message c = c.args.msg.now
@@ -40,30 +40,24 @@ family : (c : After-body-body) (k : ℕ) (o : Option Message) {r : Result Messag
 family c k o {r} e h q =
     whole c r (family-content c.body-body.result.now o h q ∙ ap (λ (x : ℕ). body_content x (kind_fields x) c.body-body.result.now) (sym e))
 
+given : (c : After-ok_or) {o : Option Message} → c.match-kind.message ≡ o → c.ok_or.result ≡ ok_or o Body
+given c e = c.ok_or.ensures.value ∙ ap (λ (o : Option Message). ok_or o Body) e
+
 pub returns-then-not-is_frame : goal.returns-then-not-is_frame
 returns-then-not-is_frame c = bad_frame c.args.msg.now (test_fails c.is_frame.ensures c.if-not-is_frame.true)
 
-pub returns-in-257 : goal.returns-in-257
-returns-in-257 c = family (goal.at.returns-in-257 c).After-body-body 0x0101 _ c.in-257.is c.start_action.ensures c.ok_or.ensures.value
-
-pub returns-in-769 : goal.returns-in-769
-returns-in-769 c = family (goal.at.returns-in-769 c).After-body-body 0x0301 _ c.in-769.is c.deletion_action.ensures c.ok_or-in-769.ensures.value
-
-pub returns-in-513-to-517 : goal.returns-in-513-to-517
-returns-in-513-to-517 c =
-    family (goal.at.returns-in-513-to-517 c).After-body-body _ _ refl c.creation_action.ensures c.ok_or-in-513-to-517.ensures.value
-
-pub returns-in-1025-to-1029 : goal.returns-in-1025-to-1029
-returns-in-1025-to-1029 c =
-    family (goal.at.returns-in-1025-to-1029 c).After-body-body _ _ refl c.update_action.ensures c.ok_or-in-1025-to-1029.ensures.value
-
-pub returns-in-1281-to-1290 : goal.returns-in-1281-to-1290
-returns-in-1281-to-1290 c =
-    family (goal.at.returns-in-1281-to-1290 c).After-body-body _ _ refl c.reading_action.ensures c.ok_or-in-1281-to-1290.ensures.value
-
-pub returns-in-1537-to-1542 : goal.returns-in-1537-to-1542
-returns-in-1537-to-1542 c =
-    family (goal.at.returns-in-1537-to-1542 c).After-body-body _ _ refl c.listing_action.ensures c.ok_or-in-1537-to-1542.ensures.value
+-- each arm leaves what its family's reader has given
+pub returns : goal.returns
+returns c =
+    let start = (goal.at.returns c).After-body-body in
+    elim c.match-kind.branch [
+      | in-257 w ↦ family start 0x0101 _ w.in-257.is w.start_action-message.ensures (given c w.message-is)
+      | in-769 w ↦ family start 0x0301 _ w.in-769.is w.deletion_action-message.ensures (given c w.message-is)
+      | in-513-to-517 w ↦ family start _ _ refl w.creation_action-message.ensures (given c w.message-is)
+      | in-1025-to-1029 w ↦ family start _ _ refl w.update_action-message.ensures (given c w.message-is)
+      | in-1281-to-1290 w ↦ family start _ _ refl w.reading_action-message.ensures (given c w.message-is)
+      | in-1537-to-1542 w ↦ family start _ _ refl w.listing_action-message.ensures (given c w.message-is)
+    ]
 
 pub returns-in_default : goal.returns-in_default
 unfolding kinds

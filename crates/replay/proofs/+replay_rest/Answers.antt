@@ -15,16 +15,16 @@ use Rattle.model.specs.Step.{StepResult}
 use Rattle.model.proofs.StepTheorems.{step_sound}
 use Rattle.replay.proofs.ReplayLaws.{answer-inside, journal_used_lem, buffer-short, frame-cut, message-done}
 use Rattle.replay.proofs.+replay_rest.Goals as goal
-use Rattle.replay.proofs.+replay_rest.Goals.{After-step_sound-answer}
+use Rattle.replay.proofs.+replay_rest.Goals.{After-answer_size-written}
 
 -- the board that was lent is bytes ..
-board-bytes : {t : ℕ} (c : After-step_sound-answer t) → are_bytes c.args.board.now ≡ true
+board-bytes : {t : ℕ} (c : After-answer_size-written t) → are_bytes c.args.board.now ≡ true
 board-bytes c = bytes_of c.args.board.now (λ i h. omega (arith, c.slice_known-1.given i))
 
 -- .. so what the step has written lies within the buffer
-written-inside : {t : ℕ} (c : After-step_sound-answer t) → c.step_sound-answer.result.written ≤ length c.step_sound-answer.new.out
+written-inside : {t : ℕ} (c : After-answer_size-written t) → c.answer_size-written.result ≤ length c.answer_size-written.new.out
 written-inside c =
-    let s = c.step_sound-answer in
+    let s = c.answer_size-written in
     answer-inside _ _ _ (board-bytes c) s.result s.new.board s.new.out s.ensures
 
 pub returns-then-is_empty : goal.returns-then-is_empty
@@ -39,8 +39,8 @@ returns-in_default t c =
     frame-cut _ _ _ c.stopped-in_default.ensures (sym c.is_empty.ensures ∙ c.if-is_empty.false) c.if-out-lt-ANSWER_LIMIT.false
     (found_none (sym c.in_default.is ∙ c.frame_length.ensures))
 
-pub slice_bounds-step_sound-end : goal.slice_bounds-step_sound-end
-slice_bounds-step_sound-end t c =
+pub slice_bounds-answer_size-end : goal.slice_bounds-answer_size-end
+slice_bounds-answer_size-end t c =
     sym (length-take-le c.in-Some.size c.args.journal.now (found-inside c.args.journal.now (found_is c.in-Some.ensures)))
 
 -- the parts lent on
@@ -51,16 +51,16 @@ pub slice_bounds-replay_rest-start : goal.slice_bounds-replay_rest-start
 slice_bounds-replay_rest-start t c = found-inside c.args.journal.now (found_is c.in-Some.ensures)
 
 pub slice_bounds-replay_rest-count-2 : goal.slice_bounds-replay_rest-count-2
-slice_bounds-replay_rest-count-2 t c = written-inside (goal.at.slice_bounds-replay_rest-count-2 t c).After-step_sound-answer
+slice_bounds-replay_rest-count-2 t c = written-inside (goal.at.slice_bounds-replay_rest-count-2 t c).After-answer_size-written
 
 pub slice_bounds-replay_rest-start-2 : goal.slice_bounds-replay_rest-start-2
-slice_bounds-replay_rest-start-2 t c = written-inside (goal.at.slice_bounds-replay_rest-start-2 t c).After-step_sound-answer
+slice_bounds-replay_rest-start-2 t c = written-inside (goal.at.slice_bounds-replay_rest-start-2 t c).After-answer_size-written
 
 -- the rest is shorter, and the board that a message left is sound
 pub replay_rest-rest-requires : goal.replay_rest-rest-requires
 replay_rest-rest-requires t c =
     let journal : List ℕ = c.args.journal.now in
-    let bytes = board-bytes (goal.at.replay_rest-rest-requires t c).After-step_sound-answer in (
+    let bytes = board-bytes (goal.at.replay_rest-rest-requires t c).After-answer_size-written in (
       omega (
         arith,
         length_rest journal c.in-Some.size,
@@ -68,15 +68,15 @@ replay_rest-rest-requires t c =
         (found_some _ c.in-Some.ensures),
         c.decreases,
       ),
-      ap (λ (x : StepResult). is_sound x.board) c.step_sound-answer.ensures
+      sym (ap (λ (x : StepResult). is_sound x.board) c.answer_size-written.ensures)
           ∙ step_sound _ c.args.board.now c.args.out.now bytes c.requires,
     )
 
 pub returns : goal.returns
 returns t c =
     let a = c.args in
-    let bytes = board-bytes (goal.at.returns t c).After-step_sound-answer in
-    let s = c.step_sound-answer in
+    let bytes = board-bytes (goal.at.returns t c).After-answer_size-written in
+    let s = c.answer_size-written in
     let r = c.replay_rest-rest in
     message-done a.journal.now a.board.now a.out.now bytes c.in-Some.size s.result s.new.board s.new.out r.result
     r.new.board r.new.out (sym c.is_empty.ensures ∙ c.if-is_empty.false) c.if-out-lt-ANSWER_LIMIT.false (found_is c.in-Some.ensures) (found_some _ c.in-Some.ensures)
