@@ -123,7 +123,7 @@ fn read_message(msg: &[u8]) -> Result<Message, Refusal>
     }
     let kind = kind(msg);
     let body = body(msg);
-    // one place for what the reader of any family gives: with a refusal made in each arm the compiler keeps a place for each
+    // one place on the stack for what the reader of any family gives: where each arm made the refusal, the compiler kept one for each arm
     let message = match kind {
         0x0101 => start_action(body),
         0x0201..=0x0205 => creation_action(kind, body),

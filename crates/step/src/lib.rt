@@ -192,6 +192,8 @@ fn act(msg: &[u8], board: &mut [u8], out: &mut [u8]) -> Result<usize, Refusal>
 
 // One message on a board that is known to be sound, with room for the answer: the board is not tested. That it is sound is a clause, as in `changes`,
 // here and in the replay: it is lent to be written.
+// It is not inlined: in the programs the replay alone calls it, and inlined there its loops ran slower than they do in the archive.
+#[inline(never)]
 pub fn step_sound(msg: &[u8], board: &mut [u8], out: &mut [u8]) -> Answer
     requires { (is_sound board.old ≡ true) × (answer_limit ≤ length out.old) }
     ensures { stepped result board.new out.new ≡ step_of msg.now board.old out.old }

@@ -40,6 +40,7 @@ family : (c : After-body-body) (k : ℕ) (o : Option Message) {r : Result Messag
 family c k o {r} e h q =
     whole c r (family-content c.body-body.result.now o h q ∙ ap (λ (x : ℕ). body_content x (kind_fields x) c.body-body.result.now) (sym e))
 
+-- the result, made of what an arm has left
 given : (c : After-ok_or) {o : Option Message} → c.match-kind.message ≡ o → c.ok_or.result ≡ ok_or o Body
 given c e = c.ok_or.ensures.value ∙ ap (λ (o : Option Message). ok_or o Body) e
 
